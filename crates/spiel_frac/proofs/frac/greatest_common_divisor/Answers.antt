@@ -1,0 +1,12 @@
+use Rattle.std.proofs.Common.{arith}
+use Rattle.std.proofs.lemmas.Nat.Gcd.{IsGcd-from_zero, IsGcd-from_mod}
+use Rattle.spiel_frac.proofs.Divisors.{greatest_common_divisor-is}
+use Rattle.spiel_frac.proofs.frac.greatest_common_divisor.Goals as goal
+
+pub loop-y-preserved : goal.loop-y-preserved
+loop-y-preserved c = λ g h. c.loop-y.invariant g (IsGcd-from_mod c.loop-y.x c.loop-y.y g h)
+
+pub returns : goal.returns
+returns c =
+    let divisor = c.loop-y.invariant c.loop-y.x (IsGcd-from_zero c.loop-y.x c.loop-y.y (omega arith)) in
+    record { divisor = divisor; value = greatest_common_divisor-is c.args.a c.args.b c.loop-y.x divisor }

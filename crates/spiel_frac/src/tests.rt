@@ -1,0 +1,96 @@
+use crate::{Frac, List, NoMemory, Text, write_frac, write_ratio};
+use std::test::Fail;
+
+#[test]
+fn fractions_are_in_lowest_terms(rt: HostRuntime) {
+    let rows = [
+        (6, -4, Some((-3, 2))),
+        (-4, -6, Some((2, 3))),
+        (0, -5, Some((0, 1))),
+        (5, 0, None),
+        (0, 0, None),
+        (i128::MAX, -1, Some((-i128::MAX, 1))),
+        (1, i128::MAX, Some((1, i128::MAX))),
+        (i128::MIN, i128::MIN, Some((1, 1))),
+        (
+            i128::MIN,
+            2,
+            Some((-0x4000_0000_0000_0000_0000_0000_0000_0000, 1)),
+        ),
+        (
+            2,
+            i128::MIN,
+            Some((-1, 0x4000_0000_0000_0000_0000_0000_0000_0000)),
+        ),
+        (0, i128::MIN, Some((0, 1))),
+        (i128::MIN, 0, None),
+        (i128::MIN, 1, None),
+        (i128::MIN, -1, None),
+        (1, i128::MIN, None),
+        (i128::MIN, i128::MAX, None),
+    ];
+    for (num, den, want) in rows {
+        let parts = Frac::new(num, den).map(|f| (f.num(), f.den()));
+        assert_eq!(rt; parts, want, "{num} / {den}");
+    }
+    assert_eq!(rt; Frac::new(6, -4), Frac::new(-3, 2));
+    assert!(rt; Frac::new(3, 2) != Frac::new(-3, 2));
+}
+
+#[test]
+fn fractions_have_texts(rt: HostRuntime) -> Result<(), Fail> {
+    let mut out = Text::new(rt.alloc());
+    let rows = [
+        (0, -7, "0"),
+        (2, 4, "1/2"),
+        (6, -4, "-3/2"),
+        (10, -5, "-2"),
+        (i128::MAX, 1, "170141183460469231731687303715884105727"),
+        (-i128::MAX, 2, "-170141183460469231731687303715884105727/2"),
+        (1, i128::MAX, "1/170141183460469231731687303715884105727"),
+    ];
+    for (num, den, want) in rows {
+        out.clear();
+        write_frac(rt.alloc(), Frac::new(num, den).ok_or("none")?, &mut out)?;
+        assert_eq!(rt; out.bytes(), want.as_bytes(), "{num} / {den}");
+    }
+    let rows = [
+        (0, 7, "0"),
+        (2, 4, "1/2"),
+        (9, 3, "3"),
+        (u64::MAX, 2, "18446744073709551615/2"),
+        (1, u64::MAX, "1/18446744073709551615"),
+        (u64::MAX, u64::MAX, "1"),
+    ];
+    for (num, den, want) in rows {
+        out.clear();
+        write_ratio(rt.alloc(), num, den, &mut out)?;
+        assert_eq!(rt; out.bytes(), want.as_bytes(), "{num} / {den}");
+    }
+    out.push(b" and ")?;
+    write_ratio(rt.alloc(), 3, 6, &mut out)?;
+    assert_eq!(rt; out.bytes(), b"1 and 1/2".as_slice());
+    Ok(())
+}
+
+#[test]
+fn texts_and_lists_grow(rt: HostRuntime) -> Result<(), Fail> {
+    let mut text = Text::new(rt.alloc());
+    text.push(b"pass")?;
+    text.push(b"")?;
+    text.push(b", bet")?;
+    assert_eq!(rt; text.bytes(), b"pass, bet".as_slice());
+    text.clear();
+    assert_eq!(rt; text.bytes(), b"".as_slice());
+    text.push(b"fold")?;
+    assert_eq!(rt; text.bytes(), b"fold".as_slice());
+
+    let mut list = List::new(rt.alloc());
+    list.push(3)?;
+    list.extend([1, 2].as_slice())?;
+    list.push(4)?;
+    assert_eq!(rt; list.items(), [3, 1, 2, 4].as_slice());
+
+    assert_eq!(rt; NoMemory.to_string(rt.alloc())?.as_str(), "no memory");
+    Ok(())
+}
