@@ -1,0 +1,6 @@
+pub mod Rules
+pub mod Plays
+pub mod Place
+pub mod Laws
+pub mod States
+pub mod Walks
