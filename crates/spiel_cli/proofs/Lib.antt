@@ -1,0 +1,4 @@
+pub mod Completion
+pub mod Lines
+pub mod Numerals
+pub mod Shown

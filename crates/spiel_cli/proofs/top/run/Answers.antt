@@ -1,0 +1,15 @@
+use Rattle.std.proofs.Common.{map}
+use Rattle.std.specs.Prelude.{string_bytes}
+use Rattle.spiel_cli.specs.Outcome.{plan_of}
+use Rattle.spiel_cli.proofs.Completion.{completed, front_taken}
+use Rattle.spiel_cli.proofs.top.run.Goals as goal
+
+pub returns-clause-outcome : goal.returns-clause-outcome
+returns-clause-outcome g c = λ files known read write.
+    completed (plan_of (map string_bytes c.args.words.now)) _ files c.report.result _ _ _ _ known _ _ c.answer-answer.result
+    c.answer-answer.ensures.follows.agrees c.answer-answer.ensures.follows.cause c.report.ensures read write
+
+pub returns-clause-front : goal.returns-clause-front
+returns-clause-front g c = λ files known late.
+    front_taken (plan_of (map string_bytes c.args.words.now)) _ files c.report.result _ _ _ _ known c.answer-answer.result
+    c.answer-answer.ensures.follows.agrees c.report.ensures late

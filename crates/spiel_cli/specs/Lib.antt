@@ -1,0 +1,7 @@
+pub mod Words
+pub mod Refusal
+pub mod Saved
+pub mod Block
+pub mod Restore
+pub mod Outcome
+pub mod Run

@@ -1,0 +1,66 @@
+ghost use Rattle.std.specs.Prelude.{◌≡◌, ℕ, ◌+◌, ◌<◌, ◌≤◌, ◌⊎◌, IsTrue, IfSome, map, string_bytes};
+ghost use Rattle.spiel_io.specs.Causes.{Rose};
+ghost use Rattle.spiel_io.specs.Outside.{Files};
+ghost use Rattle.spiel_io.specs.Plan.{AsksNothing, BeginsAtMost, HoldsAsked, side_asks};
+ghost use Rattle.spiel_io.specs.declared.outside.Slot.TheVariants.{Side};
+ghost use Rattle.spiel_cli.specs.Outcome.{names_in, outcome, plan_of};
+ghost use Rattle.spiel_cli.specs.Run.{Completes, Knows, SaysStatus, TakesFront};
+
+use crate::answer::answer;
+use crate::report::report;
+use spiel_io::{Shelf, Sink};
+use std::alloc::Global;
+
+/// Does what the words say: reads from the shelf, writes to `out`, and puts messages to `err`.
+///
+/// The answer is the exit status: 0 for done, 1 for a difference that was found, 2 for words that
+/// are no command, 3 for a read fault, 4 for bad input, 7 for a write fault, and 8 for want of
+/// memory.
+pub fn run<F: Shelf, O: Sink, E: Sink>(
+    alloc: Global,
+    words: &[String],
+    shelf: &mut F,
+    out: &mut O,
+    err: &mut E,
+) -> u8
+    // Where no read and no write failed, the status and all that was written are the outcome of the
+    // words and the files, or memory ran out.
+    ensures outcome { (files : Files) → Knows (F.state shelf.old).files (plan_of (map string_bytes words.now)) files
+        → (Rose (F.state shelf.old).faults (F.state shelf.new).faults → ⊥)
+        → (Rose (O.state out.old).faults (O.state out.new).faults → ⊥)
+        → (result ≡ 8) ⊎ Completes (outcome (map string_bytes words.now) files) result
+        (O.state out.old) (O.state out.new) (E.state err.old) (E.state err.new) }
+
+    // A read fault is answered only where one came, and none is passed over.
+    ensures read_only { result ≡ 3 → Rose (F.state shelf.old).faults (F.state shelf.new).faults }
+    ensures read_seen { (F.state shelf.old).faults < (F.state shelf.new).faults → (result ≡ 3) ⊎ (result ≡ 8) }
+
+    // The same of a write fault.
+    ensures write_only { result ≡ 7 → Rose (O.state out.old).faults (O.state out.new).faults }
+    ensures write_seen { (O.state out.old).faults < (O.state out.new).faults → (result ≡ 7) ⊎ (result ≡ 8) }
+
+    // After a refusal nothing was written, and after a write fault or want of memory a front of the
+    // outcome.
+    ensures nothing { 2 ≤ result → result ≤ 6 → (O.state out.new).taken ≡ (O.state out.old).taken }
+    ensures front { (files : Files) → Knows (F.state shelf.old).files (plan_of (map string_bytes words.now)) files
+        → 7 ≤ result → TakesFront (outcome (map string_bytes words.now) files).out (O.state out.old) (O.state out.new) }
+
+    // Messages: none after 0 and 1, and that of the status after 2, 3, 7 and 8.
+    ensures silent { result < 2 → (E.state err.new).taken ≡ (E.state err.old).taken }
+    ensures message { SaysStatus result (E.state err.old) (E.state err.new) }
+
+    // The program makes no read fault of its own: not on a steady shelf that holds what is asked
+    // for, and not where nothing is asked for.
+    ensures steady { IsTrue (F.state shelf.old).steady → IfSome (F.state shelf.old).files (λ files.
+        HoldsAsked (plan_of (map string_bytes words.now)) files → (F.state shelf.new).faults ≡ (F.state shelf.old).faults) }
+    ensures quiet { AsksNothing (plan_of (map string_bytes words.now)) → (F.state shelf.new).faults ≡ (F.state shelf.old).faults }
+
+    // How often a file is begun: no more often than the words have names of files, and in the side
+    // slot once, where the outcome asks for it.
+    ensures begins { BeginsAtMost (names_in (map string_bytes words.now)) 1 (F.state shelf.old) (F.state shelf.new) }
+    ensures side_asked { IfSome (F.state shelf.old).files (λ files. ((F.state shelf.new).reading Side).begins
+        ≤ ((F.state shelf.old).reading Side).begins + side_asks (plan_of (map string_bytes words.now)) files) }
+{
+    let answer = answer(alloc, words, shelf);
+    report(alloc, answer, out, err)
+}
