@@ -1,6 +1,8 @@
 //! The program's commands over files and sinks in memory.
 ghost use Rattle.std.specs.Prelude.{◌<◌};
 
+mod pennies;
+
 use spiel_cli::run;
 use spiel_frac::{List, NoMemory, Text};
 use spiel_io::{MemShelf, MemSink, Slot};

@@ -1,0 +1,2 @@
+pub mod Pennies
+pub mod PenniesLaws
