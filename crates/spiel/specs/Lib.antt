@@ -1,2 +1,4 @@
+pub mod Blind
+pub mod BlindLaws
 pub mod Pennies
 pub mod PenniesLaws

@@ -1,7 +1,9 @@
 //! The program's commands over files and sinks in memory.
 ghost use Rattle.std.specs.Prelude.{◌<◌};
 
+mod blind;
 mod pennies;
+mod trees;
 
 use spiel_cli::run;
 use spiel_frac::{List, NoMemory, Text};

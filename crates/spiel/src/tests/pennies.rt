@@ -13,7 +13,7 @@ use std::test::Fail;
 /// Matching pennies of two players, who choose heads (0) or tails (1) at once. Player 0 gets 1 from
 /// player 1 where both have chosen the same, else player 1 gets it. A state is the history.
 #[derive(Clone, Copy)]
-struct Pennies;
+pub(super) struct Pennies;
 
 impl Game for Pennies {
     ghost use Rattle.std.specs.Prelude.{⊤};

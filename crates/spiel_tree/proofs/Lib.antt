@@ -1,0 +1,16 @@
+pub mod FaultRows
+pub mod FirstFault
+pub mod FirstRows
+pub mod FirstSeen
+pub mod Growing
+pub mod OfGame
+pub mod Pieces
+pub mod Reading
+pub mod StateCounts
+pub mod StateNumbers
+pub mod StateReading
+pub mod Stops
+pub mod TreeParts
+pub mod TreeRows
+pub mod WayHistory
+pub mod Ways

@@ -1,0 +1,22 @@
+use Rattle.std.proofs.Common.{rules, ◌≡◌, ◌≤◌, arith, pos, to_z, of_z, w64, length}
+use Rattle.spiel_tree.specs.Flat.{rows_of}
+use Rattle.spiel_tree.specs.Rows.{rows}
+use Rattle.spiel_tree.proofs.FaultRows.{rows_named}
+use Rattle.spiel_tree.proofs.TreeParts.{game_steps, parts_fit}
+use Rattle.spiel_tree.proofs.building.build.Goals as goal
+
+pub new-requires : goal.new-requires
+new-requires g c =
+    let game = c.args.game.now in
+    let r = g.G.Game.rules game in
+    let t = c.in-Ok.rows in
+    let few : length (rows r) ≤ 1048576 = omega (arith, c.in-Ok.ensures.all.2, c.requires.high) in
+    let unit : to_z w64 (of_z w64 c.unit.result) ≡ pos r.unit = search rules in
+    parts_fit r t c.in-Ok-starts.starts.items c.in-Ok-first_rows.firsts.items (to_z w64 (of_z w64 c.unit.result)) c.players.result (g.met.G.Game.lawful game c.requires.game)
+    c.in-Ok.ensures.all.0 unit c.players.ensures c.in-Ok.ensures.all.1 few c.in-Ok.ensures.players c.in-Ok-starts.ensures c.in-Ok-first_rows.ensures c.in-None.ensures
+
+pub told-requires-clause-steps : goal.told-requires-clause-steps
+told-requires-clause-steps g c = game_steps (g.G.Game.rules c.args.game.now) c.in-Ok.rows c.in-Ok.ensures.all.0
+
+pub told-requires-clause-named : goal.told-requires-clause-named
+told-requires-clause-named g c = rows_named (rows_of c.in-Ok.rows) c.in-Some.fault c.in-Some.ensures

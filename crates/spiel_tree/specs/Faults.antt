@@ -1,0 +1,70 @@
+-- What is wrong with rows: the first row that shows it decides.
+use Rattle.std.specs.Prelude.{◌≡◌, ℕ, zero, suc, ◌<◌, ◌==◌, Bool, true, false, cond, List, [], ◌∷◌, length, Option, Some, None}
+use Rattle.std.specs.Str.{bytes_eq}
+use Rattle.spiel_api.specs.declared.place.Place.{Place}
+use Rattle.spiel_api.specs.declared.place.Place.TheVariants.{End, Chance, Move, Joint}
+use Rattle.spiel_tree.specs.Rows.{Row, Step, taken}
+use Rattle.spiel_tree.specs.Flat.{moves, row_at}
+use Rattle.spiel_tree.specs.States.{first_row}
+use Rattle.spiel_tree.specs.declared.faults.Fault.{Fault}
+use Rattle.spiel_tree.specs.declared.faults.Fault.TheVariants.{Simultaneous, Recall, Actions}
+
+-- a choice that a player remembers: what the player saw, and the number taken
+pub record Choice : Type 0 where
+  pub seen : List ℕ
+  pub number : ℕ
+
+-- a player's own choices on a way, in order
+abbrev pub own_past : ℕ → List Step → List Choice
+own_past p [] = []
+own_past p (step ∷ way) = cond (moves p step.at.place) (record { seen = step.at.info; number = taken step } ∷ own_past p way) (own_past p way)
+
+abbrev pub same_choice : Choice → Choice → Bool
+same_choice a b = cond (bytes_eq a.seen b.seen) (a.number == b.number) false
+
+abbrev pub same_past : List Choice → List Choice → Bool
+same_past [] [] = true
+same_past [] (b ∷ other) = false
+same_past (a ∷ past) [] = false
+same_past (a ∷ past) (b ∷ other) = cond (same_choice a b) (same_past past other) false
+
+-- the numbers of a decision against those of the first row of its information state
+abbrev pub against_numbers : Row → Row → ℕ → ℕ → ℕ → Option Fault
+against_numbers first here p f k = cond (bytes_eq first.here.numbers here.here.numbers) None (Some (Actions p f k))
+
+-- before them, where recall is asked for, the own pasts
+abbrev pub against : Bool → Row → Row → ℕ → ℕ → ℕ → Option Fault
+against false first here p f k = against_numbers first here p f k
+against true first here p f k = cond (same_past (own_past p first.way) (own_past p here.way)) (against_numbers first here p f k) (Some (Recall p f k))
+
+abbrev pub fault_by : Bool → List Row → ℕ → Row → Place → Option Fault
+fault_by recall rows k here End = None
+fault_by recall rows k here Chance = None
+fault_by recall rows k here (Move p) = against recall (row_at rows (first_row p here.here.info rows)) here p (first_row p here.here.info rows) k
+fault_by recall rows k here (Joint zero) = Some (Simultaneous k)
+fault_by recall rows k here (Joint (suc p)) = None
+
+-- what is wrong at the row k
+abbrev pub fault_at : Bool → List Row → ℕ → Option Fault
+fault_at recall rows k = fault_by recall rows k (row_at rows k) (row_at rows k).here.place
+
+-- the first row with a fault decides
+pub record IsFirst (recall : Bool) (rows : List Row) (fault : Fault) : Type 0 where
+  pub at : ℕ
+  pub within : at < length rows
+  pub here : fault_at recall rows at ≡ Some fault
+  pub before : (k : ℕ) → k < at → fault_at recall rows k ≡ None
+
+-- no row shows anything wrong
+abbrev pub IsFaultless : Bool → List Row → Type 0
+IsFaultless recall rows = (k : ℕ) → k < length rows → fault_at recall rows k ≡ None
+
+abbrev pub IsFirstFault : Bool → List Row → Option Fault → Type 0
+IsFirstFault recall rows None = IsFaultless recall rows
+IsFirstFault recall rows (Some fault) = IsFirst recall rows fault
+
+-- the rows that a fault names are among so many
+abbrev pub NamesRows : ℕ → Fault → Type 0
+NamesRows n (Simultaneous k) = k < n
+NamesRows n (Recall p f k) = (f < n) × (k < n)
+NamesRows n (Actions p f k) = (f < n) × (k < n)

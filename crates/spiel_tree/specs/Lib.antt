@@ -1,0 +1,10 @@
+pub mod Faults
+pub mod FirstSeen
+pub mod Flat
+pub mod Histories
+pub mod Packed
+pub mod Rows
+pub mod Shown
+pub mod States
+pub mod Trees
+pub mod Walked

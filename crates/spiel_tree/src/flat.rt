@@ -1,0 +1,122 @@
+ghost use Rattle.std.specs.Prelude.{◌≡◌, ◌<◌, ◌≤◌, ◌^◌, [], ◌∷◌, length, replicate, OnOk, IfOk, IsTrue, ◌↔◌};
+ghost use Rattle.spiel_tree.specs.Flat.{AddsRows, IsBefore, IsBuilt, IsMoverBelow, number_with, rows_of, shown, texts_with, way_to};
+ghost use Rattle.spiel_tree.specs.Shown.{node_shown};
+
+use crate::node::Shown;
+use crate::packed::Packed;
+use crate::texts::Texts;
+use spiel_api::Place;
+use spiel_frac::{List, NoMemory, Text};
+use std::alloc::Global;
+
+/// A history: its parent, the place of its last number there, and at a move the number of the
+/// mover's text among those of that player.
+#[derive(Clone, Copy, Debug)]
+pub(crate) struct FlatRow {
+    pub parent: Option<u32>,
+    pub step: u32,
+    pub place: Place,
+    pub text: usize,
+}
+
+/// Rows in preorder, with their lists in columns, and the texts of each player.
+#[derive(Drop)]
+pub(crate) struct Rows {
+    pub flat: List<FlatRow>,
+    pub numbers: Packed<u32>,
+    pub weights: Packed<u64>,
+    pub pays: Packed<i64>,
+    pub texts: Vec<Texts>,
+}
+
+/// No texts yet, for each player.
+fn no_texts(alloc: Global, players: u32) -> Result<Vec<Texts>, NoMemory>
+    ensures { IfOk result (λ texts. texts.items ≡ replicate players []) }
+{
+    let mut texts = Vec::new(alloc);
+    for _player in 0..players {
+        texts.push(Texts::new(alloc))?;
+    }
+    Ok(texts)
+}
+
+/// The number of a mover's text, which is added if it is new.
+fn number_text(
+    alloc: Global,
+    texts: &mut Vec<Texts>,
+    place: Place,
+    info: &Text,
+) -> Result<usize, NoMemory>
+    requires { IsMoverBelow (length texts.old.items) place }
+    ensures texts { OnOk result (texts.new.items ≡ texts_with texts.old.items place info.now) }
+    ensures number { IfOk result (λ n. n ≡ number_with texts.old.items place info.now) }
+{
+    match place {
+        Place::Move(player) => {
+            let text = Vec::from_slice(alloc, info.bytes())?;
+            texts[player as usize].number(text)
+        }
+        _ => Ok(0),
+    }
+}
+
+impl Rows {
+    /// No rows yet.
+    pub fn new(alloc: Global, players: u32) -> Result<Rows, NoMemory>
+        ensures rows { IfOk result (λ t. rows_of t ≡ []) }
+        ensures built { IfOk result (λ t. IsBuilt t) }
+        ensures players { IfOk result (λ t. length t.texts.items ≡ players) }
+    {
+        Ok(Rows {
+            flat: List::new(alloc),
+            numbers: Packed::new(alloc),
+            weights: Packed::new(alloc),
+            pays: Packed::new(alloc),
+            texts: no_texts(alloc, players)?,
+        })
+    }
+
+    /// Whether there are so many rows already.
+    pub fn is_full(&self, limit: u32) -> bool
+        requires { IsBuilt self.now }
+        ensures { IsTrue result ↔ limit ≤ length (rows_of self.now) }
+    {
+        self.flat.items().len() >= limit as usize
+    }
+
+    /// How many rows there are.
+    pub fn count(&self) -> u32
+        requires built { IsBuilt self.now }
+        requires fits { length (rows_of self.now) < 2 ^ 32 }
+        ensures { result ≡ length (rows_of self.now) }
+    {
+        self.flat.items().len() as u32
+    }
+
+    /// Adds a row.
+    pub fn add(
+        &mut self,
+        alloc: Global,
+        parent: Option<u32>,
+        step: u32,
+        node: &Shown,
+    ) -> Result<(), NoMemory>
+        requires built { IsBuilt self.old }
+        requires parent { IsBefore parent (length (rows_of self.old)) }
+        requires mover { IsMoverBelow (length self.old.texts.items) node.now.place }
+        requires shown { shown node.now.place node.now.info ≡ node.now.info }
+        ensures { OnOk result (AddsRows self.old self.new (record { way = way_to (rows_of self.old) parent step; here = node_shown node.now } ∷ [])) }
+    {
+        let place = node.place;
+        let text = number_text(alloc, &mut self.texts, place, &node.info)?;
+        self.numbers.push(node.numbers.items())?;
+        self.weights.push(node.weights.items())?;
+        self.pays.push(node.pays.items())?;
+        self.flat.push(FlatRow {
+            parent,
+            step,
+            place,
+            text,
+        })
+    }
+}

@@ -1,0 +1,18 @@
+//! The tree of all histories of a game.
+#![tactic(auto)]
+
+mod building;
+mod faults;
+mod flat;
+mod history;
+mod node;
+mod packed;
+mod states;
+#[cfg(test)]
+mod tests;
+mod texts;
+mod tree;
+mod walking;
+
+pub use building::build;
+pub use tree::{Tree, TreeFault};
