@@ -1,4 +1,6 @@
 pub mod Blind
 pub mod BlindLaws
+pub mod Chain
+pub mod ChainLaws
 pub mod Pennies
 pub mod PenniesLaws

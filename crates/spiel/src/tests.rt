@@ -2,6 +2,7 @@
 ghost use Rattle.std.specs.Prelude.{◌<◌};
 
 mod blind;
+mod chain;
 mod pennies;
 mod trees;
 

@@ -1,0 +1,143 @@
+//! A chain, a game in which one play has the most numbers that a play may have, for the depth of the
+//! walk of `spiel_tree`.
+ghost use Rattle.std.specs.Prelude.{◌≤◌};
+
+use spiel_api::{Game, Place};
+use spiel_frac::{List, NoMemory, Text};
+use spiel_tree::{TreeFault, build};
+use std::alloc::Global;
+
+/// A chain of one player, who has the number 0 until the history has 4,096 numbers, and always sees
+/// the same. Nothing is paid. A state is the history.
+#[derive(Clone, Copy)]
+struct Chain;
+
+impl Game for Chain {
+    ghost use Rattle.std.specs.Prelude.{⊤};
+    ghost use Rattle.spiel_api.specs.Plays.{IsPlay};
+    ghost use Rattle.spiel.specs.Chain.{chain_rules};
+    ghost use Rattle.spiel.specs.ChainLaws.{chain_lawful};
+
+    type State = List<u32>;
+
+    ghost is_game = { λ _. ⊤ };
+
+    ghost rules = { λ _. chain_rules };
+
+    ghost is_at = { λ _ s. IsPlay chain_rules s };
+
+    ghost history_of = { λ _ s. s };
+
+    ghost plays = { λ g s at. at };
+
+    ghost lawful = { λ g h. chain_lawful };
+
+    ghost can_be_played = { λ g s at. tt };
+
+    fn players(&self) -> u32 {
+        1
+    }
+
+    fn unit(&self) -> i64 {
+        1
+    }
+
+    fn pay_cap(&self) -> i64 {
+        1
+    }
+
+    fn one_shot(&self) -> bool {
+        false
+    }
+
+    fn start(&self, alloc: Global) -> Result<List<u32>, NoMemory> {
+        Ok(List::new(alloc))
+    }
+
+    fn place(&self, state: &List<u32>) -> Place {
+        if state.items().len() < 4096 {
+            Place::Move(0)
+        } else {
+            Place::End
+        }
+    }
+
+    fn legal_count(&self, state: &List<u32>, _player: u32) -> u32 {
+        if state.items().len() < 4096 { 1 } else { 0 }
+    }
+
+    fn legal_at(&self, _state: &List<u32>, _player: u32, index: u32) -> u32 {
+        index
+    }
+
+    fn weight_at(&self, _state: &List<u32>, _index: u32) -> u64 {
+        0
+    }
+
+    fn pay(&self, _state: &List<u32>, _player: u32) -> i64 {
+        0
+    }
+
+    fn history<'a>(&self, state: &'a List<u32>) -> &'a [u32] {
+        state.items()
+    }
+
+    fn info(
+        &self,
+        _alloc: Global,
+        _state: &List<u32>,
+        _player: u32,
+        out: &mut Text,
+    ) -> Result<(), NoMemory> {
+        out.push(b"dark")
+    }
+
+    fn action_name(
+        &self,
+        _alloc: Global,
+        _state: &List<u32>,
+        _player: u32,
+        _action: u32,
+        out: &mut Text,
+    ) -> Result<(), NoMemory> {
+        out.push(b"go")
+    }
+
+    fn apply(&self, _alloc: Global, state: &mut List<u32>, action: u32) -> Result<(), NoMemory> {
+        state.push(action)
+    }
+
+    fn copy(&self, alloc: Global, state: &List<u32>) -> Result<List<u32>, NoMemory> {
+        let mut history = List::new(alloc);
+        history.extend(state.items())?;
+        Ok(history)
+    }
+}
+
+/// Whether with this limit the game has more histories than it.
+fn is_too_large(alloc: Global, limit: u32) -> bool
+    requires low { 1 ≤ limit }
+    requires high { limit ≤ 1048576 }
+{
+    match build(alloc, &Chain, limit) {
+        Err(TreeFault::TooMany) => true,
+        _ => false,
+    }
+}
+
+/// Whether with this limit the game has 4,097 histories, and one information state.
+fn is_whole(alloc: Global, limit: u32) -> bool
+    requires low { 1 ≤ limit }
+    requires high { limit ≤ 1048576 }
+{
+    let Ok(tree) = build(alloc, &Chain, limit) else {
+        return false;
+    };
+    tree.histories() == 4097 && tree.states() == 1
+}
+
+#[test]
+fn the_longest_play_has_a_tree(rt: HostRuntime) {
+    assert!(rt; is_whole(rt.alloc(), 4097));
+    assert!(rt; is_too_large(rt.alloc(), 4096));
+}
