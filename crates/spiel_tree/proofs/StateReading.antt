@@ -13,8 +13,8 @@ use Rattle.spiel_tree.specs.Rows.{Row}
 use Rattle.spiel_tree.specs.Flat.{no_row, row_at, rows_of, texts_of, HasNumber, info_in, moves, IsBuilt}
 use Rattle.spiel_tree.specs.States.{InfoState, decides, first_row, no_state, noted, number_at, state_at, state_of, states_below, texts_seen}
 use Rattle.spiel_tree.proofs.FirstSeen.{text_at-place}
-use Rattle.spiel_tree.proofs.Growing.{rows_length}
-use Rattle.spiel_tree.proofs.Reading.{IsFlatRow, flat_row, same_read}
+use Rattle.spiel_tree.proofs.Growing.{below_by, rows_length}
+use Rattle.spiel_tree.proofs.Reading.{IsFlatRow, flat_row, no_flat, same_read}
 use Rattle.spiel_tree.proofs.StateNumbers.{one_player_more, players_within, state_there}
 use Rattle.spiel_tree.proofs.StateCounts.{state_split, states_few, text_number}
 
@@ -36,9 +36,6 @@ player_texts t p texts built l e =
     }
 
 -- ---- the information state of a row
-abbrev pub no_flat : FlatRow
-no_flat = record { parent = None; step = 0; place = End; text = 0 }
-
 -- a flat row that was read
 pub flat_at : (t : Rows) (k : ℕ) (flats : List FlatRow) → IsBuilt t → k < length (rows_of t) → flats ≡ t.flat → IsFlatRow t k (slice_index_or flats k no_flat)
 flat_at t k flats built l e =
@@ -47,11 +44,6 @@ flat_at t k flats built l e =
 
 pub flats_within : (t : Rows) (k : ℕ) (flats : List FlatRow) → IsBuilt t → k < length (rows_of t) → flats ≡ t.flat → k < length flats
 flats_within t k flats built l e = rw e (omega (arith, l, rows_length t built))
-
-no_number : (n p : ℕ) (texts : List (List (List ℕ))) → IsNumberIn (texts_of texts p) n → p < length texts
-no_number n p [] has = absurd (omega (arith, has.within))
-no_number n zero (x ∷ texts) has = omega arith
-no_number n (suc p) (x ∷ texts) has = omega (arith, no_number n p texts has)
 
 pub record IsMove (t : Rows) (k p n : ℕ) : Type 0 where
   pub low : p < length t.texts.items
@@ -66,7 +58,7 @@ pub flat_move : (t : Rows) (k p : ℕ) (flat : FlatRow) → IsBuilt t → IsFlat
 flat_move t k p flat built f e =
     let rows = rows_of t in
     let has : IsNumberIn (texts_of t.texts.items p) flat.text = subst (λ (place : Place). HasNumber t.texts.items place flat.text) e f.has in
-    let low : p < length t.texts.items = no_number flat.text p t.texts.items has in
+    let low : p < length t.texts.items = below_by t.texts.items p flat.text has in
     let same : texts_of t.texts.items p ≡ texts_seen p rows = built.texts p low in
     let info : (row_at rows k).here.info ≡ text_at (texts_of t.texts.items p) flat.text = f.info ∙ ap (λ (place : Place). info_in t.texts.items place flat.text) e in
     let number : flat.text ≡ place_of_text (texts_seen p rows) (row_at rows k).here.info =

@@ -1,6 +1,7 @@
 use Rattle.std.proofs.Common.{rules, arith, ◌+◌, ◌<◌, length, sym, ◌∙◌, ap, Some, ℕ}
 use Rattle.std.specs.Prelude.{slice_index_or}
-use Rattle.spiel_tree.proofs.StateReading.{flat_at, flat_other, flats_within, no_flat, row_move}
+use Rattle.spiel_tree.proofs.Reading.{no_flat}
+use Rattle.spiel_tree.proofs.StateReading.{flat_at, flat_other, flats_within, row_move}
 use Rattle.spiel_tree.proofs.states.state_of.Goals as goal
 
 pub bounds-items-row : goal.bounds-items-row
