@@ -32,6 +32,12 @@ gcd_scaled (suc fuel) a (suc b) h =
     let rest = gcd_scaled fuel (suc b) (a % suc b) below in
     (rest.0, IsGcd-from_mod a (suc b) rest.0 rest.1, scale_step a (suc b) rest.0 rest.2)
 
+-- the greatest common divisor of both numbers times a third
+pub gcd_times : (a b g k : ℕ) → IsGcd a b g → IsGcd (k * a) (k * b) (k * g)
+gcd_times a b g k is =
+    let some = gcd_scaled b a b (omega arith) in
+    subst (λ x. IsGcd (k * a) (k * b) (k * x)) (same_from_IsGcd a b some.0 g some.1 is) (some.2 k)
+
 -- what divides a product, and has no divisor with the one factor, divides the other
 pub euclid : (a b c : ℕ) → IsGcd a b 1 → a ∣ c * b → a ∣ c
 euclid a b c h k =

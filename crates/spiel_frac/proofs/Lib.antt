@@ -1,2 +1,4 @@
+pub mod CommonMultiples
 pub mod Divisors
+pub mod Pieces
 pub mod Quotients

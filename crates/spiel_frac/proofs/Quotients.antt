@@ -4,10 +4,10 @@ use Rattle.std.specs.Prelude.{ℤ, pos, negsuc, neg_ℤ, unsigned_abs, IfSome, I
 use Rattle.std.specs.Int.{IsGcd}
 use Rattle.std.proofs.lemmas.Int.{unsigned_abs-mul}
 use Rattle.std.proofs.lemmas.Bool.Decides.{leb_tells}
-use Rattle.std.proofs.Math.Nat.{mul-div_cancel', pos_of_dvd_of_pos, mul_comm, mul_assoc, zero-mul, div-le_self}
+use Rattle.std.proofs.Math.Nat.{dvd_refl, one-dvd, div-one, mul-div_cancel', pos_of_dvd_of_pos, mul_comm, mul_assoc, zero-mul, div-le_self}
 use lib.IntN.{◌*ℤ◌}
 use Rattle.spiel_frac.specs.Fraction.{Fraction, IsLowest, IsQuotient, most, greatest_common_divisor, signed_as, lowest_terms, within_most, quotient}
-use Rattle.spiel_frac.proofs.Divisors.{IsGcd-greatest, coprime_parts, positive_part, same_ratio, cancel_left}
+use Rattle.spiel_frac.proofs.Divisors.{IsGcd-greatest, greatest_common_divisor-is, coprime_parts, positive_part, same_ratio, cancel_left}
 
 size_neg : (n : ℕ) → unsigned_abs (neg_ℤ (pos n)) ≡ n
 size_neg zero = refl
@@ -148,3 +148,24 @@ quotient-IfNone num den = elim (zero_or_nonzero den) [
 -- two numbers that fit have a quotient
 pub quotient-fits : (num den : ℤ) → den ≢ pos 0 → unsigned_abs num ≤ most → unsigned_abs den ≤ most → quotient num den ≡ Some (lowest_terms num den)
 quotient-fits num den h n d = quotient-nonzero num den h ∙ within_most-some (lowest_terms num den) (rw (size_of_num num den h) (omega (arith, div-le_self (unsigned_abs num) (common num den))), rw (den_of num den h) (omega (arith, div-le_self (unsigned_abs den) (common num den))))
+
+-- the denominator of w / n, two numbers from 0 on
+pub lowest_terms-den : (w n : ℕ) → (lowest_terms (pos w) (pos n)).den ≡ n / greatest_common_divisor w n
+unfolding lowest_terms
+lowest_terms-den w n = refl
+
+-- it is above 0
+pub lowest_terms-den_positive : (w n : ℕ) → 0 < n → 0 < (lowest_terms (pos w) (pos n)).den
+lowest_terms-den_positive w n p = rw (lowest_terms-den w n) (positive_part n (greatest_common_divisor w n) p (IsGcd-greatest w n).1)
+
+-- that of 1 / n is n
+pub lowest_terms-den_of_unit : (n : ℕ) → (lowest_terms (pos 1) (pos n)).den ≡ n
+lowest_terms-den_of_unit n =
+    let one : 1 ≡ greatest_common_divisor 1 n = greatest_common_divisor-is 1 n 1 (dvd_refl 1, one-dvd n, λ d h k. h) in
+    lowest_terms-den 1 n ∙ ap (λ x. n / x) (sym one) ∙ div-one n
+
+-- that of a whole number is 1
+pub lowest_terms-den_of_whole : (w : ℕ) → (lowest_terms (pos w) (pos 1)).den ≡ 1
+lowest_terms-den_of_whole w =
+    let one : 1 ≡ greatest_common_divisor w 1 = greatest_common_divisor-is w 1 1 (one-dvd w, dvd_refl 1, λ d h k. k) in
+    lowest_terms-den w 1 ∙ ap (λ x. 1 / x) (sym one) ∙ div-one 1

@@ -1,2 +1,4 @@
 pub mod Adding
 pub mod Fraction
+pub mod Multiples
+pub mod Packed

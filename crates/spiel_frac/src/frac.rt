@@ -9,7 +9,7 @@ use std::alloc::{AllocError, Global};
 use std::marker::Model;
 
 /// The greatest size of a part, 2^127 - 1.
-const MOST: u128 = 0x7fff_ffff_ffff_ffff_ffff_ffff_ffff_ffff;
+pub(crate) const MOST: u128 = 0x7fff_ffff_ffff_ffff_ffff_ffff_ffff_ffff;
 
 /// A fraction in lowest terms, with a denominator above 0 and the sign in the numerator. Neither
 /// part passes 2^127 - 1 in size. Two are equal exactly where they are the same number.
@@ -32,7 +32,7 @@ impl Model for Frac {
 }
 
 /// The greatest common divisor, by Euclid's algorithm (Elements, book VII, proposition 2).
-fn greatest_common_divisor(a: u128, b: u128) -> u128
+pub(crate) fn greatest_common_divisor(a: u128, b: u128) -> u128
     ensures divisor { IsGcd a b result }
     ensures value { result ≡ greatest_common_divisor a b }
 {

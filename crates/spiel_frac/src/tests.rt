@@ -1,4 +1,4 @@
-use crate::{Frac, List, NoMemory, Text, write_frac, write_ratio};
+use crate::{Frac, List, NoMemory, Packed, Text, lcm, write_frac, write_ratio};
 use std::test::Fail;
 
 #[test]
@@ -92,5 +92,83 @@ fn texts_and_lists_grow(rt: HostRuntime) -> Result<(), Fail> {
     assert_eq!(rt; list.items(), [3, 1, 2, 4].as_slice());
 
     assert_eq!(rt; NoMemory.to_string(rt.alloc())?.as_str(), "no memory");
+    Ok(())
+}
+
+#[test]
+fn least_common_multiples(rt: HostRuntime) {
+    let rows = [
+        (1, 1, Some(1)),
+        (4, 6, Some(12)),
+        (6, 4, Some(12)),
+        (12, 18, Some(36)),
+        (7, 7, Some(7)),
+        (8, 9, Some(72)),
+        (1, 30, Some(30)),
+        (30, 10, Some(30)),
+        // 2^64 - 1 and 2^32 - 1, which divides it
+        (
+            0xffff_ffff_ffff_ffff,
+            0xffff_ffff,
+            Some(0xffff_ffff_ffff_ffff),
+        ),
+        // 2^100 twice, whose product has more than 128 bits
+        (1 << 100, 1 << 100, Some(1 << 100)),
+        (1 << 126, 1 << 64, Some(1 << 126)),
+        // 2^63 and 2^64 - 1
+        (
+            1 << 63,
+            0xffff_ffff_ffff_ffff,
+            Some(0x7fff_ffff_ffff_ffff_8000_0000_0000_0000),
+        ),
+        // 2^126 - 1 and 2
+        (
+            0x3fff_ffff_ffff_ffff_ffff_ffff_ffff_ffff,
+            2,
+            Some(0x7fff_ffff_ffff_ffff_ffff_ffff_ffff_fffe),
+        ),
+        // 2^127 - 1
+        (
+            0x7fff_ffff_ffff_ffff_ffff_ffff_ffff_ffff,
+            1,
+            Some(0x7fff_ffff_ffff_ffff_ffff_ffff_ffff_ffff),
+        ),
+        (0x7fff_ffff_ffff_ffff_ffff_ffff_ffff_ffff, 2, None),
+        // 2^127
+        (1 << 127, 1, None),
+        (1 << 64, 1 << 127, None),
+        // 2^126 and 3 * 2^125
+        (1 << 126, 3 << 125, None),
+        // 2^64 and the numbers beside it
+        (1 << 64, 0xffff_ffff_ffff_ffff, None),
+        (1 << 64, 0x1_0000_0000_0000_0001, None),
+        (u128::MAX, u128::MAX, None),
+        (u128::MAX, u128::MAX - 1, None),
+    ];
+    for (a, b, want) in rows {
+        assert!(rt; a >= 1 && b >= 1);
+        assert_eq!(rt; lcm(a, b), want, "{a} and {b}");
+    }
+}
+
+#[test]
+fn lists_stand_one_after_another(rt: HostRuntime) -> Result<(), Fail> {
+    let rows = [
+        [3, 1].as_slice(),
+        [].as_slice(),
+        [4, 1, 5].as_slice(),
+        [9].as_slice(),
+        [].as_slice(),
+    ];
+    let mut lists = Packed::new(rt.alloc());
+    assert_eq!(rt; lists.len(), 0);
+    for row in rows {
+        lists.push(row)?;
+    }
+    assert_eq!(rt; lists.len(), rows.len());
+    for (k, row) in rows.iter().enumerate() {
+        assert!(rt; k < lists.len());
+        assert_eq!(rt; lists.at(k), *row, "{k}");
+    }
     Ok(())
 }

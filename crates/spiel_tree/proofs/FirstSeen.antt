@@ -74,7 +74,7 @@ text_kept (x ∷ texts) t (suc n) l = by (bytes_eq t x) (text_kept texts t n (om
     by true ih = refl
     by false ih = ih
 
-place_kept : (texts : List (List ℕ)) (t u : List ℕ) → place_of_text texts u < length texts → place_of_text (with_text texts t) u ≡ place_of_text texts u
+pub place_kept : (texts : List (List ℕ)) (t u : List ℕ) → place_of_text texts u < length texts → place_of_text (with_text texts t) u ≡ place_of_text texts u
 place_kept [] t u l = absurd (omega arith)
 place_kept (x ∷ texts) t u l = by (bytes_eq t x) (bytes_eq u x) l (λ k. place_kept texts t u k)
   where

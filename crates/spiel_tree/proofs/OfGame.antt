@@ -15,12 +15,13 @@ use Rattle.spiel_tree.specs.Histories.{below, histories_from, histories}
 use Rattle.spiel_tree.specs.Rows.{Row, Step, node_of, place_of_number, row_of, rows, pays_at, pays_below, way_from, weights_at}
 use Rattle.spiel_tree.specs.Flat.{StepsWithin, no_row, row_at}
 use Rattle.spiel_tree.specs.Trees.{Whole, IsGameTree}
+use Rattle.spiel_tree.proofs.Ways.{some_row}
 
 all_flat : {X Y : Type 0} (P : X → Type 0) (f : Y → List X) (ys : List Y) → All (λ y. All P (f y)) ys → All P (flat_map f ys)
 all_flat P f [] are = All-nil P
 all_flat P f (y ∷ ys) are = All-append P (f y) (flat_map f ys) (All-head (λ z. All P (f z)) y ys are) (all_flat P f ys (All-tail (λ z. All P (f z)) y ys are))
 
-all_plays : (r : Rules) (k : ℕ) (h : List ℕ) → IsPlay r h → All (IsPlay r) (below (next_of r) k h)
+pub all_plays : (r : Rules) (k : ℕ) (h : List ℕ) → IsPlay r h → All (IsPlay r) (below (next_of r) k h)
 all_plays r zero h play = All-cons (IsPlay r) h [] play (All-nil (IsPlay r))
 all_plays r (suc k) h play =
     let f : ℕ → List (List ℕ) = λ a. below (next_of r) k (h ++ a ∷ []) in
@@ -72,7 +73,7 @@ next_few r laws h play = by (r.place h) refl
     by (Move p) e = few p (among (Move p) e)
     by (Joint p) e = few p (among (Joint p) e)
 
-pays_count : (pay : ℕ → ℤ) (n : ℕ) → length (pays_below pay n) ≡ n
+pub pays_count : (pay : ℕ → ℤ) (n : ℕ) → length (pays_below pay n) ≡ n
 pays_count pay zero = refl
 pays_count pay (suc n) = omega (arith, length-append (pays_below pay n) (pay n ∷ []), pays_count pay n)
 
@@ -126,3 +127,10 @@ row_steps r row of = subst (λ (row : Row). All IsWithin row.way) (sym of.is) (w
 -- in a game each step of a way took a legal number
 pub steps_within : (r : Rules) → StepsWithin (rows r)
 steps_within r k l = row_steps r (row_at (rows r) k) (All-get_or (IsOfPlay r) (rows r) k no_row l (rows_of_plays r))
+
+pub tree_steps : (tree : Whole) → IsGameTree tree → StepsWithin tree.rows
+tree_steps tree game = subst (λ (t : Whole). StepsWithin t.rows) (sym game.is) (steps_within game.rules)
+
+-- the tree of a game has a row
+pub tree_some : (tree : Whole) → IsGameTree tree → 0 < length tree.rows
+tree_some tree game = subst (λ (t : Whole). 0 < length t.rows) (sym game.is) (some_row game.rules game.lawful [] (IsPlay-nil game.rules))

@@ -93,7 +93,7 @@ abbrev is_number : Option ℕ → ℕ → Bool
 is_number None s = false
 is_number (Some n) s = n == s
 
-abbrev HasOwn : ℕ → List Row → Place → List ℕ → Type 0
+abbrev pub HasOwn : ℕ → List Row → Place → List ℕ → Type 0
 HasOwn players rows End info = Unit {0}
 HasOwn players rows Chance info = Unit {0}
 HasOwn players rows (Move p) info = (p < players) × (place_of_text (texts_seen p rows) info < length (texts_seen p rows))
@@ -136,7 +136,7 @@ decides_number players rows s (Move q) info own l = by (length (states_below q r
         ap (λ (state : InfoState). cond (state.player == q) (bytes_eq state.text info) false) same
         ∙ decides_by split.player (text_at (texts_seen split.player rows) split.number) q info apart
 
-own_here : (t : Rows) (k : ℕ) → IsBuilt t → k < length (rows_of t) → HasOwn (length t.texts.items) (rows_of t) (row_at (rows_of t) k).here.place (row_at (rows_of t) k).here.info
+pub own_here : (t : Rows) (k : ℕ) → IsBuilt t → k < length (rows_of t) → HasOwn (length t.texts.items) (rows_of t) (row_at (rows_of t) k).here.place (row_at (rows_of t) k).here.info
 own_here t k built l =
     let flat : FlatRow = slice_index_or t.flat k no_flat in
     by flat (flat_at t k t.flat built l refl) flat.place refl

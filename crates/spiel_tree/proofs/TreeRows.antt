@@ -1,15 +1,16 @@
 -- The rows of a tree, as its columns keep them.
 use Rattle.std.proofs.Common.{◌≡◌, ℕ, ◌<◌, List, [], ◌∷◌, ◌++◌, length, Option, Some, None, refl, ap, sym, subst, ◌∙◌, arith}
-use Rattle.std.specs.Prelude.{slice_index, slice_index_or, IfSome}
+use Rattle.std.specs.Prelude.{All, slice_index, slice_index_or, IfSome}
 use Rattle.spiel_tree.specs.declared.flat.Rows.{Rows}
 use Rattle.spiel_tree.specs.Rows.{Row, Step, way_on}
-use Rattle.spiel_tree.specs.Flat.{IsBefore, row_at, way_to}
+use Rattle.spiel_tree.specs.Flat.{IsBefore, StepsWithin, row_at, way_to}
 use Rattle.spiel_tree.specs.Trees.{IsParent, IsTree, Whole, last_index}
 use Rattle.spiel_tree.proofs.Growing.{rows_length}
 use Rattle.spiel_tree.proofs.Reading.{flat_row, no_flat, same_read}
 use Rattle.spiel_tree.specs.States.{first_row, state_at, states_below}
 use Rattle.spiel_tree.proofs.FirstRows.{first_row_there}
-use Rattle.spiel_tree.proofs.OfGame.{IsSoundRow, sound_rows}
+use Rattle.spiel_tree.proofs.OfGame.{IsSoundRow, sound_rows, tree_steps}
+use Rattle.spiel_tree.proofs.WayHistory.{last_step}
 
 -- what the columns say of a row
 pub record IsTreeRow (tree : Whole) (flat : Rows) (k : ℕ) : Type 0 where
@@ -17,6 +18,7 @@ pub record IsTreeRow (tree : Whole) (flat : Rows) (k : ℕ) : Type 0 where
   pub place : (row_at tree.rows k).here.place ≡ (slice_index_or flat.flat k no_flat).place
   pub way : (row_at tree.rows k).way ≡ way_to tree.rows (slice_index_or flat.flat k no_flat).parent (slice_index_or flat.flat k no_flat).step
   pub before : IsBefore (slice_index_or flat.flat k no_flat).parent k
+  pub taken : IfSome (slice_index_or flat.flat k no_flat).parent (λ q. (slice_index_or flat.flat k no_flat).step < length (row_at tree.rows q).here.numbers)
   pub numbers : (row_at tree.rows k).here.numbers ≡ slice_index_or flat.numbers k []
   pub weights : (row_at tree.rows k).here.weights ≡ slice_index_or flat.weights k []
   pub pays : (row_at tree.rows k).here.pays ≡ slice_index_or flat.pays k []
@@ -25,16 +27,26 @@ pub record IsTreeRow (tree : Whole) (flat : Rows) (k : ℕ) : Type 0 where
   pub pays_within : k < length flat.pays
   pub sound : IsSoundRow tree.players (row_at tree.rows k)
 
+-- the step to a row took one of the numbers of its parent
+step_taken : (rows : List Row) (parent : Option ℕ) (step k : ℕ) → StepsWithin rows → k < length rows → (row_at rows k).way ≡ way_to rows parent step
+    → IfSome parent (λ q. step < length (row_at rows q).here.numbers)
+step_taken rows None step k steps l way = tt
+step_taken rows (Some q) step k steps l way =
+    last_step (row_at rows q).way (record { at = (row_at rows q).here; index = step }) (subst (All (λ s. s.index < length s.at.numbers)) way (steps k l))
+
 row_is : (tree : Whole) (flat : Rows) (starts firsts : List ℕ) (k : ℕ) → IsTree tree flat starts firsts → k < length tree.rows → IsTreeRow tree flat k
 row_is tree flat starts firsts k is l =
     let built = is.built in
     let low : k < length flat.flat = omega (arith, l, rows_length flat built, ap length is.rows) in
     let r = flat_row flat k (slice_index_or flat.flat k no_flat) built low (same_read flat.flat k no_flat (slice_index_or flat.flat k no_flat) low) in
+    let way : (row_at tree.rows k).way ≡ way_to tree.rows (slice_index_or flat.flat k no_flat).parent (slice_index_or flat.flat k no_flat).step =
+    ap (λ (rows : List Row). (row_at rows k).way) (sym is.rows) ∙ r.way ∙ ap (λ (rows : List Row). way_to rows (slice_index_or flat.flat k no_flat).parent (slice_index_or flat.flat k no_flat).step) is.rows in
     record {
       within = low;
       place = ap (λ (rows : List Row). (row_at rows k).here.place) (sym is.rows) ∙ r.place;
-      way = ap (λ (rows : List Row). (row_at rows k).way) (sym is.rows) ∙ r.way ∙ ap (λ (rows : List Row). way_to rows (slice_index_or flat.flat k no_flat).parent (slice_index_or flat.flat k no_flat).step) is.rows;
+      way = way;
       before = r.before;
+      taken = step_taken tree.rows (slice_index_or flat.flat k no_flat).parent (slice_index_or flat.flat k no_flat).step k (tree_steps tree is.game) l way;
       numbers = ap (λ (rows : List Row). (row_at rows k).here.numbers) (sym is.rows) ∙ r.numbers;
       weights = ap (λ (rows : List Row). (row_at rows k).here.weights) (sym is.rows) ∙ r.weights;
       pays = ap (λ (rows : List Row). (row_at rows k).here.pays) (sym is.rows) ∙ r.pays;
@@ -58,11 +70,16 @@ pub last_of_way : (rows : List Row) (parent : Option ℕ) (step k : ℕ) → IsB
 last_of_way rows None step k before l = absurd (omega (arith, before, l))
 last_of_way rows (Some q) step k before l = last_pushed (row_at rows q).way (record { at = (row_at rows q).here; index = step })
 
-pub parent_is : (rows : List Row) (parent : Option ℕ) (step k : ℕ) → IsBefore parent k → (row_at rows k).way ≡ way_to rows parent step → IfSome parent (λ q. IsParent rows q k)
-parent_is rows None step k before way = tt
-parent_is rows (Some q) step k before way =
+pub parent_is : (rows : List Row) (parent : Option ℕ) (step k : ℕ) → IsBefore parent k → (row_at rows k).way ≡ way_to rows parent step
+    → IfSome parent (λ q. step < length (row_at rows q).here.numbers) → IfSome parent (λ q. IsParent rows q k)
+parent_is rows None step k before way within = tt
+parent_is rows (Some q) step k before way within =
     let last : last_index (row_at rows k).way ≡ step = ap last_index way ∙ last_pushed (row_at rows q).way (record { at = (row_at rows q).here; index = step }) in
-    record { before = before; way = way ∙ ap (λ (i : ℕ). way_on (row_at rows q) i) (sym last) }
+    record {
+      before = before;
+      way = way ∙ ap (λ (i : ℕ). way_on (row_at rows q) i) (sym last);
+      index = omega (arith, last, within);
+    }
 
 -- the first row of an information state is one of the rows
 pub first_within_tree : (seen tree : Whole) (flat : Rows) (starts firsts : List ℕ) (s k : ℕ) → IsTree seen flat starts firsts → seen ≡ tree

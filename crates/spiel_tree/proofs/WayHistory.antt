@@ -15,7 +15,7 @@ numbers_there t k is l =
     let below : k < length t.flat = omega (arith, l, rows_length t is) in
     (flat_row t k (slice_index_or t.flat k no_flat) is below (same_read t.flat k no_flat (slice_index_or t.flat k no_flat) below)).numbers
 
-last_step : (way : List Step) (step : Step) → All (λ s. s.index < length s.at.numbers) (way ++ step ∷ []) → step.index < length step.at.numbers
+pub last_step : (way : List Step) (step : Step) → All (λ s. s.index < length s.at.numbers) (way ++ step ∷ []) → step.index < length step.at.numbers
 last_step [] step all = all 0 step (omega arith)
 last_step (s ∷ way) step all = last_step way step (λ k d l. all (suc k) d (omega arith))
 

@@ -48,7 +48,20 @@ fault_by recall rows k here (Joint (suc p)) = None
 abbrev pub fault_at : Bool → List Row → ℕ → Option Fault
 fault_at recall rows k = fault_by recall rows k (row_at rows k) (row_at rows k).here.place
 
--- the first row with a fault decides
+-- ---- the first row with a fault decides
+-- as a function that computes: the first fault at the rows from k on, of which there are so many
+abbrev pub first_of : Option Fault → Option Fault → Option Fault
+first_of None later = later
+first_of (Some fault) later = Some fault
+
+abbrev pub first_fault_from : Bool → List Row → ℕ → ℕ → Option Fault
+first_fault_from recall rows k zero = None
+first_fault_from recall rows k (suc n) = first_of (fault_at recall rows k) (first_fault_from recall rows (suc k) n)
+
+abbrev pub first_fault : Bool → List Row → Option Fault
+first_fault recall rows = first_fault_from recall rows 0 (length rows)
+
+-- and as facts
 pub record IsFirst (recall : Bool) (rows : List Row) (fault : Fault) : Type 0 where
   pub at : ℕ
   pub within : at < length rows

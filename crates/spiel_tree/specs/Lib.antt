@@ -1,8 +1,8 @@
+pub mod Closed
 pub mod Faults
 pub mod FirstSeen
 pub mod Flat
 pub mod Histories
-pub mod Packed
 pub mod Rows
 pub mod Shown
 pub mod States

@@ -1,11 +1,12 @@
 -- The tree of a game: what is told of it, and what is wrong with one.
-use Rattle.std.specs.Prelude.{◌≡◌, ℕ, ◌<◌, ◌≤◌, ℤ, pos, false, List, [], ◌∷◌, length, ⊤}
+use Rattle.std.specs.Prelude.{◌≡◌, ℕ, ◌<◌, ◌≤◌, ℤ, pos, false, List, [], ◌∷◌, length, Option, Some, nat_lt, if◌then◌else◌, ⊤}
+use Rattle.std.specs.Option.{option_map}
 use Rattle.spiel_api.specs.Rules.{Rules}
 use Rattle.spiel_api.specs.Laws.{IsLawful}
 use Rattle.spiel_tree.specs.Rows.{Row, Step, history_of, rows, way_on}
 use Rattle.spiel_tree.specs.Flat.{IsBuilt, row_at, rows_of}
 use Rattle.spiel_tree.specs.States.{AreFirsts, AreStarts}
-use Rattle.spiel_tree.specs.Faults.{IsFaultless, IsFirst}
+use Rattle.spiel_tree.specs.Faults.{IsFaultless, IsFirst, first_fault}
 use Rattle.spiel_tree.specs.declared.flat.Rows.{Rows}
 use Rattle.spiel_tree.specs.declared.faults.Fault.{Fault}
 use Rattle.spiel_tree.specs.declared.faults.Fault.TheVariants as by_rows
@@ -59,6 +60,15 @@ IsFault rules limit told.TooMany = limit < length (rows rules)
 IsFault rules limit told.NoMemory = ⊤
 IsFault rules limit fault = IsTold rules limit fault
 
+-- why a game has no tree, as a function that computes: too many histories come before all else
+unfoldable pub tree_fault : Rules → ℕ → Option TreeFault
+tree_fault rules limit = if nat_lt limit (length (rows rules)) then Some told.TooMany else option_map (fault_told (rows rules)) (first_fault false (rows rules))
+
+-- the fault is the one that was computed, unless memory ran out
+abbrev pub IsComputed : Option TreeFault → TreeFault → Type 0
+IsComputed computed told.NoMemory = ⊤
+IsComputed computed fault = computed ≡ Some fault
+
 -- ---- ways
 -- the last index of a way
 abbrev pub last_index : List Step → ℕ
@@ -70,3 +80,4 @@ last_index (step ∷ next ∷ way) = last_index (next ∷ way)
 pub record IsParent (rows : List Row) (parent row : ℕ) : Type 0 where
   pub before : parent < row
   pub way : (row_at rows row).way ≡ way_on (row_at rows parent) (last_index (row_at rows row).way)
+  pub index : last_index (row_at rows row).way < length (row_at rows parent).here.numbers

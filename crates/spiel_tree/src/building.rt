@@ -1,7 +1,7 @@
-ghost use Rattle.std.specs.Prelude.{◌≡◌, ◌<◌, ◌≤◌, ◌^◌, false, length, IfErr, IfOk};
+ghost use Rattle.std.specs.Prelude.{◌≡◌, ◌<◌, ◌≤◌, ◌^◌, false, length, IfErr, IfOk, None};
 ghost use Rattle.spiel_tree.specs.Faults.{IsFaultless, NamesRows};
 ghost use Rattle.spiel_tree.specs.Flat.{IsBuilt, StepsWithin, rows_of};
-ghost use Rattle.spiel_tree.specs.Trees.{IsFault, fault_told, tree_of};
+ghost use Rattle.spiel_tree.specs.Trees.{IsComputed, IsFault, fault_told, tree_fault, tree_of};
 
 use crate::faults::{Fault, first_fault};
 use crate::flat::Rows;
@@ -59,6 +59,8 @@ pub fn build<G: Game>(alloc: Global, game: &G, limit: u32) -> Result<Tree, TreeF
     ensures few { IfOk result (λ tree. length tree.rows ≤ limit) }
     ensures faultless { IfOk result (λ tree. IsFaultless false tree.rows) }
     ensures fault { IfErr result (λ fault. IsFault (G.rules game.now) limit fault) }
+    ensures computed_ok { IfOk result (λ tree. tree_fault (G.rules game.now) limit ≡ None) }
+    ensures computed_err { IfErr result (λ fault. IsComputed (tree_fault (G.rules game.now) limit) fault) }
 {
     let rows = match walk_all(alloc, game, limit) {
         Ok(rows) => rows,

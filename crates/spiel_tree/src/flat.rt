@@ -3,10 +3,9 @@ ghost use Rattle.spiel_tree.specs.Flat.{AddsRows, IsBefore, IsBuilt, IsMoverBelo
 ghost use Rattle.spiel_tree.specs.Shown.{node_shown};
 
 use crate::node::Shown;
-use crate::packed::Packed;
 use crate::texts::Texts;
 use spiel_api::Place;
-use spiel_frac::{List, NoMemory, Text};
+use spiel_frac::{List, NoMemory, Packed, Text};
 use std::alloc::Global;
 
 /// A history: its parent, the place of its last number there, and at a move the number of the

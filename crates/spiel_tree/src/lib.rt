@@ -6,7 +6,6 @@ mod faults;
 mod flat;
 mod history;
 mod node;
-mod packed;
 mod states;
 #[cfg(test)]
 mod tests;

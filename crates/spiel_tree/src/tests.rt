@@ -1,28 +1,5 @@
-use crate::packed::Packed;
 use crate::texts::Texts;
 use std::test::Fail;
-
-#[test]
-fn lists_stand_one_after_another(rt: HostRuntime) -> Result<(), Fail> {
-    let rows = [
-        [3, 1].as_slice(),
-        [].as_slice(),
-        [4, 1, 5].as_slice(),
-        [9].as_slice(),
-        [].as_slice(),
-    ];
-    let mut lists = Packed::new(rt.alloc());
-    assert_eq!(rt; lists.len(), 0);
-    for row in rows {
-        lists.push(row)?;
-    }
-    assert_eq!(rt; lists.len(), rows.len());
-    for (k, row) in rows.iter().enumerate() {
-        assert!(rt; k < lists.len());
-        assert_eq!(rt; lists.at(k), *row, "{k}");
-    }
-    Ok(())
-}
 
 #[test]
 fn texts_are_numbered_as_first_seen(rt: HostRuntime) -> Result<(), Fail> {

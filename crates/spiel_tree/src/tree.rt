@@ -2,7 +2,7 @@ ghost use Rattle.std.specs.Prelude.{◌≡◌, ◌<◌, ◌≤◌, ◌^◌, leng
 ghost use Rattle.spiel_api.specs.declared.place.Place.TheVariants.{Chance, End};
 ghost use Rattle.spiel_tree.specs.Flat.{IsBefore, row_at, rows_of, way_to};
 ghost use Rattle.spiel_tree.specs.States.{numbers_of, state_at, state_of, states_below};
-ghost use Rattle.spiel_tree.specs.Trees.{IsParent, IsTree, last_index};
+ghost use Rattle.spiel_tree.specs.Trees.{IsGameTree, IsParent, IsTree, last_index};
 
 use crate::flat::{FlatRow, Rows};
 use crate::states::{find, player_of, state_of, text_of};
@@ -122,9 +122,11 @@ impl Tree {
         self.players
     }
 
-    /// How many histories there are.
+    /// How many histories there are: the empty one at least.
     pub fn histories(&self) -> u32
-        ensures { result ≡ length self.now.rows }
+        ensures count { result ≡ length self.now.rows }
+        ensures some { 1 ≤ result }
+        ensures game { IsGameTree self.now }
     {
         self.rows.count()
     }
@@ -153,10 +155,11 @@ impl Tree {
         text_of(&self.rows, &self.starts, state)
     }
 
-    /// How many numbers the mover has at an information state.
+    /// How many numbers the mover has at an information state: one at least.
     pub fn action_count(&self, state: u32) -> u32
         requires { state < length (states_below self.now.players self.now.rows) }
-        ensures { result ≡ length (numbers_of self.now.players self.now.rows state) }
+        ensures count { result ≡ length (numbers_of self.now.players self.now.rows state) }
+        ensures some { 1 ≤ result }
     {
         self.row_count(self.firsts[state as usize])
     }
@@ -234,10 +237,13 @@ impl Tree {
         self.weights_at(row)[index as usize]
     }
 
-    /// The information state of a history, at a move.
+    /// The information state of a history, at a move. The mover has the same numbers there as at the
+    /// state's first history.
     pub fn row_state(&self, row: u32) -> Option<u32>
         requires { row < length self.now.rows }
-        ensures { result ≡ state_of self.now.rows (row_at self.now.rows row) }
+        ensures state { result ≡ state_of self.now.rows (row_at self.now.rows row) }
+        ensures within { IfSome result (λ s. s < length (states_below self.now.players self.now.rows)) }
+        ensures same_numbers { IfSome result (λ s. numbers_of self.now.players self.now.rows s ≡ (row_at self.now.rows row).here.numbers) }
     {
         state_of(&self.rows, &self.starts, row)
     }
@@ -257,6 +263,7 @@ impl Tree {
         ensures place { (row_at self.now.rows row).here.place ≡ result.place }
         ensures way { (row_at self.now.rows row).way ≡ way_to self.now.rows result.parent result.step }
         ensures before { IsBefore result.parent row }
+        ensures taken { IfSome result.parent (λ parent. result.step < length (row_at self.now.rows parent).here.numbers) }
     {
         self.rows.flat.items()[row as usize]
     }

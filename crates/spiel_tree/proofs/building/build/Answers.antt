@@ -1,6 +1,10 @@
-use Rattle.std.proofs.Common.{rules, ◌≡◌, ◌≤◌, arith, pos, to_z, of_z, w64, length}
+use Rattle.std.proofs.Common.{rules, ◌≡◌, ◌≤◌, arith, pos, to_z, of_z, w64, length, Err, None, Some, subst, sym}
+use Rattle.spiel_tree.specs.Trees.{IsComputed, fault_told, tree_fault}
+use Rattle.spiel_tree.specs.Walked.{IsAll}
+use Rattle.spiel_tree.specs.declared.walking.Stop.{Stop}
 use Rattle.spiel_tree.specs.Flat.{rows_of}
 use Rattle.spiel_tree.specs.Rows.{rows}
+use Rattle.spiel_tree.proofs.ComputedFaults.{computed_told, tree_fault-found, tree_fault-many}
 use Rattle.spiel_tree.proofs.FaultRows.{rows_named}
 use Rattle.spiel_tree.proofs.TreeParts.{game_steps, parts_fit}
 use Rattle.spiel_tree.proofs.building.build.Goals as goal
@@ -20,3 +24,21 @@ told-requires-clause-steps g c = game_steps (g.G.Game.rules c.args.game.now) c.i
 
 pub told-requires-clause-named : goal.told-requires-clause-named
 told-requires-clause-named g c = rows_named (rows_of c.in-Ok.rows) c.in-Some.fault c.in-Some.ensures
+
+pub returns-in-Err-TooMany-clause-computed_err : goal.returns-in-Err-TooMany-clause-computed_err
+returns-in-Err-TooMany-clause-computed_err g c =
+    let r = g.G.Game.rules c.args.game.now in
+    tree_fault-many r c.args.limit (subst (λ (stop : Stop). IsAll (Err stop) (rows r) c.args.limit) c.in-Err-TooMany.field-0-is c.in-Err-TooMany.ensures.all)
+
+pub returns-in-None-clause-computed_ok : goal.returns-in-None-clause-computed_ok
+returns-in-None-clause-computed_ok g c =
+    let t = c.in-Ok.rows in
+    tree_fault-found (g.G.Game.rules c.args.game.now) c.args.limit (rows_of t) None c.in-Ok.ensures.all.0 c.in-Ok.ensures.all.2 c.in-None.ensures
+
+pub returns-in-Some-clause-computed_err : goal.returns-in-Some-clause-computed_err
+returns-in-Some-clause-computed_err g c =
+    let r = g.G.Game.rules c.args.game.now in
+    let t = c.in-Ok.rows in
+    let computed : tree_fault r c.args.limit ≡ Some (fault_told (rows_of t) c.in-Some.fault) =
+    tree_fault-found r c.args.limit (rows_of t) (Some c.in-Some.fault) c.in-Ok.ensures.all.0 c.in-Ok.ensures.all.2 c.in-Some.ensures in
+    subst (IsComputed (tree_fault r c.args.limit)) (sym c.unwrap_or.ensures) (computed_told (tree_fault r c.args.limit) (fault_told (rows_of t) c.in-Some.fault) c.told.result computed c.told.ensures)

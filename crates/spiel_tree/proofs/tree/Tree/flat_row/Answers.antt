@@ -14,3 +14,6 @@ returns-clause-way c = rw c.items.ensures (tree_row (the_view c.self.inside) c.a
 
 pub returns-clause-before : goal.returns-clause-before
 returns-clause-before c = rw c.items.ensures (tree_row (the_view c.self.inside) c.args.self.now c.self.inside.rows c.self.inside.starts.items c.self.inside.firsts.items c.args.row c.self.invariant c.self.view_is c.requires).before
+
+pub returns-clause-taken : goal.returns-clause-taken
+returns-clause-taken c = rw c.items.ensures (tree_row (the_view c.self.inside) c.args.self.now c.self.inside.rows c.self.inside.starts.items c.self.inside.firsts.items c.args.row c.self.invariant c.self.view_is c.requires).taken

@@ -1,7 +1,7 @@
 ghost use Rattle.std.specs.Prelude.{◌≡◌, ◌<◌, ◌≤◌, [], ◌∷◌, ◌++◌, length, slice_index, slice_index_or, OnOk, OnErr};
-ghost use Rattle.spiel_tree.specs.Packed.{pieces, AreEnds};
+ghost use Rattle.spiel_frac.specs.Packed.{pieces, AreEnds};
 
-use spiel_frac::NoMemory;
+use crate::memory::NoMemory;
 use std::alloc::Global;
 use std::marker::Model;
 
@@ -17,7 +17,7 @@ pub struct Packed<T> {
 impl<T> Model for Packed<T> {
     ghost use Rattle.std.specs.Prelude.{List, length};
     ghost use Rattle.std.specs.Coded.{coded_list};
-    ghost use Rattle.spiel_tree.specs.Packed.{pieces, AreEnds};
+    ghost use Rattle.spiel_frac.specs.Packed.{pieces, AreEnds};
 
     ghost Value = { List (List T) };
 

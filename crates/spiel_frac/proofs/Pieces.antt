@@ -2,7 +2,7 @@
 use Rattle.std.specs.Prelude.{slice_range, slice_index, slice_index_or}
 use Rattle.std.proofs.Common.{◌≡◌, ℕ, zero, suc, ◌+◌, ◌-◌, ◌<◌, ◌≤◌, List, [], ◌∷◌, ◌++◌, length, take, drop, refl, ap, ap₂, ◌∙◌, arith, length-drop}
 use Rattle.std.proofs.lemmas.List.{take-append-le, drop-append-le, drop_at, take_all}
-use Rattle.spiel_tree.specs.Packed.{pieces, AreEnds}
+use Rattle.spiel_frac.specs.Packed.{pieces, AreEnds}
 
 -- as many lists as ends
 pub count_of_pieces : {A : Type 0} (ends : List ℕ) (items : List A) (from : ℕ) → length (pieces from ends items) ≡ length ends

@@ -1,0 +1,14 @@
+use Rattle.std.proofs.Common.{◌<◌, arith, length, subst}
+use Rattle.spiel_tree.specs.contracts.tree.Tree.{the_view}
+use Rattle.spiel_tree.specs.Trees.{IsGameTree}
+use Rattle.spiel_tree.proofs.OfGame.{tree_some}
+use Rattle.spiel_tree.proofs.tree.Tree.histories.Goals as goal
+
+pub returns-clause-game : goal.returns-clause-game
+returns-clause-game c = subst IsGameTree c.self.view_is c.self.invariant.game
+
+pub returns-clause-some : goal.returns-clause-some
+returns-clause-some c =
+    let tree = the_view c.self.inside in
+    let some : 0 < length tree.rows = tree_some tree c.self.invariant.game in
+    omega (arith, some, c.count.ensures)
