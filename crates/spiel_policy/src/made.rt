@@ -1,0 +1,58 @@
+ghost use Rattle.std.specs.Prelude.{◌≡◌, ◌∷◌, ◌≤◌, ◌<◌, ◌^◌, length, replicate, IfOk};
+ghost use Rattle.spiel_policy.specs.Profiles.{Fits, first_profile, uniform_profile};
+ghost use Rattle.spiel_policy.specs.Kept.{first_and, profile_with};
+
+use crate::policy::Policy;
+use spiel_frac::{List, NoMemory, Packed};
+use spiel_tree::Tree;
+use std::alloc::Global;
+
+/// The weight 1 for the first number, and `other` for each of the rest.
+#[tactic(auto, using(crate::proofs::Profiles::first_and_more))]
+fn first_and(alloc: Global, count: u32, other: u128) -> Result<List<u128>, NoMemory>
+    requires { 1 ≤ count }
+    ensures { IfOk result (λ weights. weights ≡ first_and count other) }
+{
+    let mut weights = List::new(alloc);
+    weights.push(1)?;
+    for _ in 1..count {
+        weights.push(other)?;
+    }
+    Ok(weights)
+}
+
+/// The policy with the weight 1 for the first number of each information state, and `other` for
+/// each of the rest.
+fn policy_with(alloc: Global, tree: &Tree, other: u128) -> Result<Policy, NoMemory>
+    requires { other ≤ 1 }
+    ensures profile { IfOk result (λ policy. policy ≡ profile_with tree.now other) }
+    ensures fits { IfOk result (λ policy. Fits tree.now policy) }
+{
+    let mut weights = Packed::new(alloc);
+    let mut totals = List::new(alloc);
+    for state in 0..tree.states() {
+        let count = tree.action_count(state);
+        let state_weights = first_and(alloc, count, other)?;
+        weights.push(state_weights.items())?;
+        totals.push(1 + other * u128::from(count - 1))?;
+    }
+    Ok(Policy::new(weights, totals))
+}
+
+/// The policy by which whoever moves takes each number with the same probability: weight 1 for each.
+#[tactic(auto, using(crate::proofs::Profiles::uniform_is))]
+pub fn uniform(alloc: Global, tree: &Tree) -> Result<Policy, NoMemory>
+    ensures profile { IfOk result (λ policy. policy ≡ uniform_profile tree.now) }
+    ensures fits { IfOk result (λ policy. Fits tree.now policy) }
+{
+    policy_with(alloc, tree, 1)
+}
+
+/// The policy by which whoever moves takes the first number: weight 1 for it, 0 for the rest.
+#[tactic(auto, using(crate::proofs::Profiles::first_profile_is))]
+pub fn first_action(alloc: Global, tree: &Tree) -> Result<Policy, NoMemory>
+    ensures profile { IfOk result (λ policy. policy ≡ first_profile tree.now) }
+    ensures fits { IfOk result (λ policy. Fits tree.now policy) }
+{
+    policy_with(alloc, tree, 0)
+}
