@@ -3,23 +3,30 @@ use Rattle.std.specs.Prelude.{ℕ, List, [], ◌∷◌, Option, Some, None, Resu
 use Rattle.spiel_io.specs.Outside.{Files}
 use Rattle.spiel_io.specs.Plan.{Plan, Refuse, decided}
 use Rattle.spiel_cli.specs.Refusal.{message_of, status_of}
-use Rattle.spiel_cli.specs.Words.{one_word, verb_of}
+use Rattle.spiel_cli.specs.Words.{one_word, two_words, verb_of}
 use Rattle.spiel_cli.specs.Restore.{restore_plan}
+use Rattle.spiel_cli.specs.Value.{value_plan}
 use Rattle.spiel_cli.specs.declared.done.Done.{Done}
 use Rattle.spiel_cli.specs.declared.refusal.Refusal.{Refusal}
 use Rattle.spiel_cli.specs.declared.refusal.Refusal.TheVariants.{Usage, Read}
 use Rattle.spiel_cli.specs.declared.words.Verb.{Verb}
-use Rattle.spiel_cli.specs.declared.words.Verb.TheVariants.{Restore}
+use Rattle.spiel_cli.specs.declared.words.Verb.TheVariants.{Restore, Value}
 
 -- a plan for the word, where there is one
 abbrev pub with_word : Option (List ℕ) → (List ℕ → Plan Done Refusal) → Plan Done Refusal
 with_word None plan = Refuse Usage
 with_word (Some word) plan = plan word
 
+-- a plan for two words, where there are two
+abbrev pub with_words : Option (List ℕ × List ℕ) → (List ℕ → List ℕ → Plan Done Refusal) → Plan Done Refusal
+with_words None plan = Refuse Usage
+with_words (Some pair) plan = plan pair.0 pair.1
+
 -- what a verb decides by the words behind it
 abbrev pub verb_plan : Option Verb → List (List ℕ) → Plan Done Refusal
 verb_plan None words = Refuse Usage
 verb_plan (Some Restore) words = with_word (one_word words) restore_plan
+verb_plan (Some Value) words = with_words (two_words words) value_plan
 
 -- what the words ask for, in which order, and what is decided by it
 abbrev pub plan_of : List (List ℕ) → Plan Done Refusal
@@ -35,6 +42,7 @@ names_of (Some name) = 1
 abbrev pub verb_names : Option Verb → List (List ℕ) → ℕ
 verb_names None words = 0
 verb_names (Some Restore) words = names_of (one_word words)
+verb_names (Some Value) words = 0
 
 -- how many names the words have in the place of a file; none where the words are no command
 abbrev pub names_in : List (List ℕ) → ℕ

@@ -1,9 +1,10 @@
 -- The one form of a saved file that is read so far.
-use Rattle.std.specs.Prelude.{ℕ, ◌^◌, ◌==◌, nat_lt, Bool, ◌&&◌, ◌||◌, List, [], ◌∷◌, codes, Option, Some, None, if◌then◌else◌}
+use Rattle.std.specs.Prelude.{ℕ, ◌^◌, ◌==◌, nat_lt, Bool, ◌&&◌, List, [], ◌∷◌, codes, Option, Some, None, if◌then◌else◌}
 use Rattle.std.specs.Str.{bytes_eq}
 use Rattle.std.specs.Str.Parse.{digits_value}
 use Rattle.std.specs.Fmt.{decimal}
 use Rattle.std.specs.Option.{option_map}
+use Rattle.spiel_cli.specs.Words.{names_kuhn}
 
 -- a byte in front of the first line
 abbrev pub with_byte : ℕ → List (List ℕ) → List (List ℕ)
@@ -32,7 +33,7 @@ numbers_of (line ∷ lines) = with_number (number_of line) (numbers_of lines)
 abbrev pub begins_saved : List ℕ → List ℕ → List ℕ → List ℕ → List ℕ → Bool
 begins_saved meta version game name state =
     bytes_eq meta (codes "[Meta]") && bytes_eq version (codes "Version: 1") && bytes_eq game (codes "[Game]")
-    && (bytes_eq name (codes "kuhn_poker") || bytes_eq name (codes "kuhn_poker()")) && bytes_eq state (codes "[State]")
+    && names_kuhn name && bytes_eq state (codes "[State]")
 
 -- the history of a saved game of Kuhn poker: five lines, and then one number on each line
 abbrev pub history_of_lines : List (List ℕ) → Option (List ℕ)

@@ -6,7 +6,8 @@ ghost use Rattle.spiel_cli.specs.Outcome.{names_in, plan_of};
 use crate::done::Done;
 use crate::refusal::Refusal;
 use crate::restore::restore;
-use crate::words::{Verb, operand, read_verb};
+use crate::value::policy_values;
+use crate::words::{Verb, operand, read_verb, two_operands};
 use spiel_io::Shelf;
 use std::alloc::Global;
 
@@ -24,6 +25,10 @@ pub fn answer<F: Shelf>(alloc: Global, words: &[String], shelf: &mut F) -> Resul
     match verb {
         Verb::Restore => match operand(words) {
             Some(name) => restore(alloc, shelf, name.as_bytes()),
+            None => Err(Refusal::Usage),
+        },
+        Verb::Value => match two_operands(words) {
+            Some((game, policy)) => policy_values(alloc, game.as_bytes(), policy),
             None => Err(Refusal::Usage),
         },
     }

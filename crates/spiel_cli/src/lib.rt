@@ -10,6 +10,7 @@ mod report;
 mod restore;
 mod saved;
 mod top;
+mod value;
 mod words;
 
 pub use top::run;

@@ -5,6 +5,7 @@ ghost use Rattle.std.specs.Str.Parse.{digits_value};
 ghost use Rattle.std.specs.Option.{SomeIff};
 ghost use Rattle.spiel_cli.specs.Saved.{begins_saved, lines_of, number_of, numbers_of, saved_history};
 
+use crate::words::names_kuhn;
 use spiel_frac::{List, NoMemory};
 use std::alloc::Global;
 use std::str;
@@ -89,7 +90,7 @@ fn is_header(meta: &[u8], version: &[u8], game: &[u8], name: &[u8], state: &[u8]
     meta == b"[Meta]".as_slice()
         && version == b"Version: 1".as_slice()
         && game == b"[Game]".as_slice()
-        && (name == b"kuhn_poker".as_slice() || name == b"kuhn_poker()".as_slice())
+        && names_kuhn(name)
         && state == b"[State]".as_slice()
 }
 
