@@ -4,3 +4,5 @@ pub mod Chain
 pub mod ChainLaws
 pub mod Pennies
 pub mod PenniesLaws
+pub mod Turns
+pub mod TurnsLaws

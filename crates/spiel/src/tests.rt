@@ -3,8 +3,12 @@ ghost use Rattle.std.specs.Prelude.{◌<◌};
 
 mod blind;
 mod chain;
+mod overflow;
 mod pennies;
+mod policies;
 mod trees;
+mod turns;
+mod values;
 
 use spiel_cli::run;
 use spiel_frac::{List, NoMemory, Text};
@@ -89,7 +93,7 @@ type Row = (
     &'static [u8],
 );
 
-const ROWS: [Row; 17] = [
+const ROWS: [Row; 26] = [
     ("restore a", b"", 0, ROOT_BLOCK, b""),
     (
         "restore a",
@@ -155,6 +159,27 @@ const ROWS: [Row; 17] = [
     ("restore", b"", 2, b"", USAGE),
     ("restore a a", b"", 2, b"", USAGE),
     ("restore -a", b"", 2, b"", USAGE),
+    (
+        "value kuhn_poker uniform",
+        b"",
+        0,
+        b"game kuhn_poker()\nvalue 0 1/8\nvalue 1 -1/8\n",
+        b"",
+    ),
+    (
+        "value kuhn_poker() first",
+        b"",
+        0,
+        b"game kuhn_poker()\nvalue 0 0\nvalue 1 0\n",
+        b"",
+    ),
+    ("value kuhn_poker a", b"", 4, b"", OTHER_FORM),
+    ("value leduc_poker uniform", b"", 4, b"", OTHER_FORM),
+    ("value - -", b"", 4, b"", OTHER_FORM),
+    ("value kuhn_poker", b"", 2, b"", USAGE),
+    ("value kuhn_poker uniform first", b"", 2, b"", USAGE),
+    ("value kuhn_poker -x", b"", 2, b"", USAGE),
+    ("value -x uniform", b"", 2, b"", USAGE),
 ];
 
 fn is_row(alloc: Global, row: &Row) -> Result<bool, NoMemory> {

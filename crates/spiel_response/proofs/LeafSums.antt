@@ -1,27 +1,20 @@
 -- The sums over the leaves before a history, with one history more, and at the end.
 use Rattle.std.proofs.Common.{◌≡◌, ℕ, zero, suc, ◌+◌, ◌<◌, ◌≤◌, ◌⊎◌, inl, inr, List, [], ◌∷◌, ◌++◌, length, take, drop, Option, Some, None, refl, sym, ap, ap₂, subst, ◌∙◌, arith}
-use Rattle.std.specs.Prelude.{cond, sum_by, IfSome, IfNone, ℤ, pos, ◌+ℤ◌, ◌*ℤ◌, nat_abs}
+use Rattle.std.specs.Prelude.{sum_by, IfSome, IfNone, ℤ, pos, ◌+ℤ◌, ◌*ℤ◌, nat_abs}
 use Rattle.std.proofs.Math.IntN.{+ℤ_assoc, +ℤ_comm}
 use Rattle.std.proofs.lemmas.Bool.{cases_lt}
-use Rattle.std.proofs.lemmas.List.{take_all, take_more, take-append-drop}
-use Rattle.std.proofs.lemmas.List.Elements.{filter-append}
+use Rattle.std.proofs.lemmas.List.{take_all}
 use Rattle.std.proofs.lemmas.List.Sums.{sum_by-append, sum_by_push}
 use Rattle.spiel_api.specs.declared.place.Place.TheVariants.{End}
 use Rattle.spiel_frac.specs.Fraction.{most}
 use Rattle.spiel_tree.specs.Rows.{Row}
-use Rattle.spiel_tree.specs.Flat.{no_row, row_at}
+use Rattle.spiel_tree.specs.Flat.{row_at}
 use Rattle.spiel_response.specs.Reach.{is_end, leaves, reach}
 use Rattle.spiel_response.specs.Values.{Judged, counterfactual_at, expected_at, return_to, size_below, size_for, sum_over, value_of, values_below}
 use Rattle.spiel_response.specs.Weighed.{size_before, value_before}
 use Rattle.spiel_response.specs.Summed.{AreSums, ArePlayerSums}
 use Rattle.spiel_response.specs.declared.sums.Sums.{Sums}
-
--- ---- leaves
--- where the game is over at the next history, it is the next leaf
-pub leaves_more : (rows : List Row) (k : ℕ) → k < length rows → (row_at rows k).here.place ≡ End → leaves (take (k + 1) rows) ≡ leaves (take k rows) ++ row_at rows k ∷ []
-leaves_more rows k l e =
-    ap leaves (take_more rows k no_row l) ∙ filter-append (λ (row : Row). is_end row.here.place) (take k rows) (row_at rows k ∷ [])
-    ∙ ap (λ place. leaves (take k rows) ++ cond (is_end place) (row_at rows k ∷ []) []) e
+use Rattle.spiel_response.proofs.Leaves.{leaf_more, leaves_split}
 
 -- ---- sums
 -- one number more
@@ -36,22 +29,20 @@ parts j p leaf = nat_abs (expected_at j.tree.rows j.profile p leaf) + nat_abs (c
 pub value_more : (j : Judged) (p k : ℕ) → k < length j.tree.rows → (row_at j.tree.rows k).here.place ≡ End
     → value_before j p (k + 1) ≡ value_before j p k +ℤ expected_at j.tree.rows j.profile p (row_at j.tree.rows k)
 value_more j p k l e =
-    ap (sum_over (expected_at j.tree.rows j.profile p)) (leaves_more j.tree.rows k l e)
+    ap (sum_over (expected_at j.tree.rows j.profile p)) (leaf_more j.tree.rows k l (ap is_end e))
     ∙ sum_over_push (expected_at j.tree.rows j.profile p) (leaves (take k j.tree.rows)) (row_at j.tree.rows k)
 
 pub size_more : (j : Judged) (p k : ℕ) → k < length j.tree.rows → (row_at j.tree.rows k).here.place ≡ End
     → size_before j p (k + 1) ≡ size_before j p k + parts j p (row_at j.tree.rows k)
 size_more j p k l e =
-    ap (sum_by (parts j p)) (leaves_more j.tree.rows k l e) ∙ sum_by_push (parts j p) (leaves (take k j.tree.rows)) (row_at j.tree.rows k)
+    ap (sum_by (parts j p)) (leaf_more j.tree.rows k l (ap is_end e)) ∙ sum_by_push (parts j p) (leaves (take k j.tree.rows)) (row_at j.tree.rows k)
 
 -- the sizes up to a history are at most those of all leaves
 pub size_before-le : (j : Judged) (p k : ℕ) → size_before j p k ≤ size_for j p
 size_before-le j p k =
     let rows = j.tree.rows in
     let whole : size_for j p ≡ size_before j p k + sum_by (parts j p) (leaves (drop k rows)) =
-    ap (λ (all : List Row). sum_by (parts j p) (leaves all)) (sym (take-append-drop k rows))
-    ∙ ap (sum_by (parts j p)) (filter-append (λ (row : Row). is_end row.here.place) (take k rows) (drop k rows))
-    ∙ sum_by-append (parts j p) (leaves (take k rows)) (leaves (drop k rows)) in
+    ap (sum_by (parts j p)) (leaves_split rows k) ∙ sum_by-append (parts j p) (leaves (take k rows)) (leaves (drop k rows)) in
     omega (arith, whole)
 
 -- ---- one leaf more
