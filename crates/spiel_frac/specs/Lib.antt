@@ -2,3 +2,4 @@ pub mod Adding
 pub mod Fraction
 pub mod Multiples
 pub mod Packed
+pub mod formers

@@ -1,0 +1,57 @@
+-- `List` inside the type of its own items, as the list of parameters stands inside a game. The
+-- toolchain looks for these names beside a type that has a model of its own.
+use mathlib.Core.Path.{◌≡◌, refl, sym}
+use mathlib.Core.List.{List, []}
+use mathlib.Core.Former.{Former, this, list, via, children}
+use base.Stored.{code_map}
+use denote.RattleType.{RattleType}
+use denote.HoleLaws.{Alike}
+use denote.HolePlaces.{Recodes, struct_places, laid}
+use denote.Hole.Carrier.{listed, list-listed}
+use denote.Hole.Fix.{over}
+use denote.Param.Weighed.{Weighed, w_list}
+use denote.Model.Placed.{view_places}
+use Rattle.std.specs.formers.vec.Vec as vec
+use Rattle.std.specs.declared.alloc.Global.{Global}
+use Rattle.std.specs.contracts.alloc.Global as heap
+use Rattle.std.specs.contracts.impls.GlobalAllocator.TheImpl.{ghosts}
+use Rattle.spiel_frac.specs.declared.list.List.TheInside.{Inside}
+use Rattle.spiel_frac.specs.declared.list.List.TheView.{view, invariant}
+use Rattle.spiel_frac.specs.contracts.list.List as C
+use Rattle.spiel_frac.specs.contracts.list.List.TheInside as I
+
+-- lists of what another former makes
+abbrev pub the_former : Former {0} → Former {0}
+the_former g = list g
+
+-- a list is larger than each of its items
+abbrev pub the_weighed : {g : Former {0}} → Weighed g → Weighed (the_former g)
+the_weighed w = w_list w
+
+-- a list with no item, so that there is a smallest one
+pub the_empty : List ⊥
+the_empty = []
+
+-- the items of a list
+abbrev pub the_items : (X : Type 0) → List X → List X
+the_items X d = d
+
+-- and no others stand in it
+pub the_items_listed : (X : Type 0) (d : List X) → listed _ (children (the_former this) X d) ≡ the_items X d
+the_items_listed X d = list-listed X d
+
+-- the fields: the vector round which a list stands
+abbrev fields : Former {0}
+fields = via (vec.the_former this Global) Inside (λ X a. a.items) (λ X v. record { items = v }) (λ X a. refl) (λ X v. refl)
+
+module _ (R S : RattleType) (h : R.Denot → S.Denot) where
+  -- a change of the items is a change in these fields
+  pub the_places : Alike R S h → Alike (C.the_row R) (C.the_row S) ((the_former this).map R.Denot S.Denot h)
+  the_places a = view_places fields (list this) view (λ X Y k u. refl) (λ X u. refl) R.Denot S.Denot h (C.the_row R).coded (C.the_row S).coded
+      (invariant R.Denot) (invariant S.Denot) (λ u p q. refl) (λ u p q. refl) (λ u e. tt) (λ u e. tt)
+      (over (I.the_row R)) (over (I.the_row S))
+      (struct_places (I.the_type R) (I.the_type S) (vec.mapped h, tt) _ (λ d. refl) refl (laid _ _ _ (vec.the_places heap.the_row ghosts R S h a), tt))
+
+  -- and so it is of their codes
+  pub the_codes_placed : Recodes R S h → Recodes (C.the_row R) (C.the_row S) ((the_former this).map R.Denot S.Denot h)
+  the_codes_placed e d = sym (code_map R.coded.code S.coded.code h (λ x. sym (e x)) d)
