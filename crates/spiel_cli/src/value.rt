@@ -1,9 +1,9 @@
-ghost use Rattle.std.specs.Prelude.{◌≡◌, ◌++◌, ◌<◌, map, IfOk, OnOk, None};
+ghost use Rattle.std.specs.Prelude.{◌≡◌, ◌++◌, ◌<◌, IfOk, OnOk, None};
 ghost use Rattle.spiel_io.specs.Plan.{Agrees};
 ghost use Rattle.spiel_frac.specs.Fraction.{lowest_terms};
 ghost use Rattle.spiel_policy.specs.Profiles.{Fits};
 ghost use Rattle.spiel_response.specs.Values.{denominator_of, value_of};
-ghost use Rattle.spiel_cli.specs.Block.{below, ended, lines_text};
+ghost use Rattle.spiel_cli.specs.Block.{ended, lines_text};
 ghost use Rattle.spiel_cli.specs.Refusal.{kind_of};
 ghost use Rattle.spiel_cli.specs.Restore.{lift};
 ghost use Rattle.spiel_cli.specs.Value.{judged, profile_of, value_line, value_lines, value_plan, valued};

@@ -1,4 +1,4 @@
-ghost use Rattle.std.specs.Prelude.{◌≡◌, ◌∷◌, ◌≤◌, ◌<◌, ◌^◌, length, replicate, IfOk};
+ghost use Rattle.std.specs.Prelude.{◌≡◌, ◌≤◌, ◌<◌, IfOk};
 ghost use Rattle.spiel_policy.specs.Profiles.{Fits, first_profile, uniform_profile};
 ghost use Rattle.spiel_policy.specs.Kept.{first_and, profile_with};
 

@@ -1,6 +1,5 @@
 ghost use Rattle.std.specs.Prelude.{◌≡◌, ◌<◌, length, sum, Some};
 ghost use Rattle.spiel_api.specs.declared.place.Place.TheVariants.{Chance, Move};
-ghost use Rattle.spiel_policy.specs.Profiles.{Fits};
 ghost use Rattle.spiel_tree.specs.Flat.{row_at};
 ghost use Rattle.spiel_tree.specs.States.{numbers_of, state_number, states_below};
 ghost use Rattle.spiel_tree.specs.Trees.{IsGameTree};
