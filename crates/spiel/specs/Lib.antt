@@ -4,5 +4,7 @@ pub mod Chain
 pub mod ChainLaws
 pub mod Pennies
 pub mod PenniesLaws
+pub mod Small
+pub mod SmallLaws
 pub mod Turns
 pub mod TurnsLaws

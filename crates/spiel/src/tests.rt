@@ -6,6 +6,7 @@ mod chain;
 mod overflow;
 mod pennies;
 mod policies;
+mod small;
 mod trees;
 mod turns;
 mod values;

@@ -10,7 +10,7 @@ use Rattle.spiel_tree.specs.Rows.{Row}
 use Rattle.spiel_tree.specs.FirstSeen.{text_at, IsNumberIn}
 use Rattle.spiel_tree.specs.Flat.{row_at, rows_of, texts_of, info_in, HasNumber, IsBuilt}
 use Rattle.spiel_tree.specs.States.{InfoState, states_below, texts_seen, decides, first_row, AreStarts, AreFirsts}
-use Rattle.spiel_tree.specs.Faults.{against_numbers, fault_by, fault_at}
+use Rattle.spiel_tree.specs.Faults.{against, fault_by, fault_at}
 use Rattle.spiel_tree.proofs.Growing.{rows_length, below_by}
 use Rattle.spiel_tree.proofs.Reading.{flat_row}
 use Rattle.spiel_tree.proofs.StateNumbers.{one_player_more, players_within, state_there}
@@ -35,7 +35,7 @@ pub record IsDecision (t : Rows) (starts firsts : List ℕ) (k p text : ℕ) : T
   pub state : slice_index starts p + text < length firsts
   pub below : slice_index starts p + text < slice_index starts (suc p)
   pub first : slice_index firsts (slice_index starts p + text) < length (rows_of t)
-  pub fault : fault_at false (rows_of t) k ≡ against_numbers (row_at (rows_of t) (slice_index firsts (slice_index starts p + text))) (row_at (rows_of t) k) p (slice_index firsts (slice_index starts p + text)) k
+  pub fault : fault_at (rows_of t) k ≡ against (row_at (rows_of t) (slice_index firsts (slice_index starts p + text))) (row_at (rows_of t) k) p (slice_index firsts (slice_index starts p + text)) k
 
 pub decision : (t : Rows) (starts firsts : List ℕ) (k p : ℕ) (flat : FlatRow) → IsBuilt t → AreStarts (length t.texts.items) (rows_of t) starts → AreFirsts (length t.texts.items) (rows_of t) firsts
     → k < length (rows_of t) → flat ≡ slice_index_or t.flat k flat → flat.place ≡ Move p → IsDecision t starts firsts k p flat.text
@@ -63,11 +63,11 @@ decision t starts firsts k p flat built by_player by_state l e moves =
       state = omega (arith, start, state, by_state.count);
       below = omega (arith, start, within, by_player.each (suc p) (omega (arith, below)), one_player_more p rows);
       first = omega (arith, first, l, first_within p (row_at rows k).here.info rows k l (own_decides p (row_at rows k) place));
-      fault = ap (λ (q : Place). fault_by false rows k (row_at rows k) q) place ∙ ap (λ (f : ℕ). against_numbers (row_at rows f) (row_at rows k) p f k) (sym first);
+      fault = ap (λ (q : Place). fault_by rows k (row_at rows k) q) place ∙ ap (λ (f : ℕ). against (row_at rows f) (row_at rows k) p f k) (sym first);
     }
 
 -- where nobody moves alone
-pub elsewhere : (t : Rows) (k : ℕ) (flat : FlatRow) → IsBuilt t → k < length (rows_of t) → flat ≡ slice_index_or t.flat k flat → fault_at false (rows_of t) k ≡ fault_by false (rows_of t) k (row_at (rows_of t) k) flat.place
+pub elsewhere : (t : Rows) (k : ℕ) (flat : FlatRow) → IsBuilt t → k < length (rows_of t) → flat ≡ slice_index_or t.flat k flat → fault_at (rows_of t) k ≡ fault_by (rows_of t) k (row_at (rows_of t) k) flat.place
 elsewhere t k flat built l e =
     let is = flat_row t k flat built (omega (arith, l, rows_length t built)) e in
-    ap (λ (q : Place). fault_by false (rows_of t) k (row_at (rows_of t) k) q) is.place
+    ap (λ (q : Place). fault_by (rows_of t) k (row_at (rows_of t) k) q) is.place

@@ -1,13 +1,16 @@
 pub mod Children
 pub mod ComputedFaults
+pub mod Decisions
 pub mod FaultRows
 pub mod FirstFault
 pub mod FirstRows
 pub mod FirstSeen
 pub mod Growing
 pub mod OfGame
+pub mod PerfectRecall
 pub mod Reading
 pub mod RowStates
+pub mod OwnPasts
 pub mod Parents
 pub mod StateChoices
 pub mod StateCounts

@@ -22,7 +22,7 @@ pub record ComesFrom (next : List ℕ → List ℕ) (hs : List (List ℕ)) (k : 
   pub legal : index < length (next (history_at hs place))
   pub is : history_at hs k ≡ history_at hs place ++ slice_index (next (history_at hs place)) index ∷ []
 
-parent_below : (next : List ℕ → List ℕ) (n : ℕ) (h : List ℕ) (k : ℕ) → 0 < k → k < length (below next n h) → ComesFrom next (below next n h) k
+pub parent_below : (next : List ℕ → List ℕ) (n : ℕ) (h : List ℕ) (k : ℕ) → 0 < k → k < length (below next n h) → ComesFrom next (below next n h) k
 parent_below next zero h k p l = absurd (omega (arith, p, l))
 parent_below next (suc n) h zero p l = absurd (omega (arith, p))
 parent_below next (suc n) h (suc k) p l =

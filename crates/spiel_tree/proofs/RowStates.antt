@@ -1,18 +1,16 @@
 -- The information state of a row of a tree.
-use Rattle.std.proofs.Common.{◌≡◌, ℕ, ◌<◌, Bool, true, false, cond, List, length, Option, Some, None, ap, sym, subst, ◌∙◌, refl}
+use Rattle.std.proofs.Common.{◌≡◌, ℕ, ◌<◌, List, length, Option, ap, sym, subst, ◌∙◌, refl}
 use Rattle.std.specs.Prelude.{IfSome}
-use Rattle.std.specs.Str.{bytes_eq}
-use Rattle.std.proofs.lemmas.Slice.Eq.{bytes_eq-Decides}
 use Rattle.spiel_api.specs.declared.place.Place.{Place}
 use Rattle.spiel_api.specs.declared.place.Place.TheVariants.{End, Chance, Move, Joint}
 use Rattle.spiel_tree.specs.declared.flat.Rows.{Rows}
-use Rattle.spiel_tree.specs.declared.faults.Fault.{Fault}
 use Rattle.spiel_tree.specs.FirstSeen.{place_of_text}
 use Rattle.spiel_tree.specs.Rows.{Row}
 use Rattle.spiel_tree.specs.Flat.{row_at, rows_of}
 use Rattle.spiel_tree.specs.States.{InfoState, first_row, number_at, numbers_of, state_at, state_number, state_of, states_below, texts_seen}
-use Rattle.spiel_tree.specs.Faults.{IsFaultless, against_numbers, fault_by}
+use Rattle.spiel_tree.specs.Faults.{IsFaultless}
 use Rattle.spiel_tree.specs.Trees.{IsTree, Whole}
+use Rattle.spiel_tree.proofs.Decisions.{like_first}
 use Rattle.spiel_tree.proofs.FirstSeen.{text_at-place}
 use Rattle.spiel_tree.proofs.StateNumbers.{state_there}
 use Rattle.spiel_tree.proofs.StateReading.{HasOwn, number_if, own_here}
@@ -24,22 +22,15 @@ own_state players rows p info low within =
     state_there players p (place_of_text (texts_seen p rows) info) rows low within
     ∙ ap (λ (text : List ℕ). record { player = p; text = text }) (text_at-place (texts_seen p rows) info within)
 
-no_fault : (b : Bool) (fault : Fault) → cond b None (Some fault) ≡ None → b ≡ true
-no_fault true fault e = refl
-no_fault false fault e = cc
-
 -- where nothing is wrong, the mover has the numbers of the first row of the state
-same_numbers_at : (players : ℕ) (rows : List Row) (k : ℕ) → IsFaultless false rows → k < length rows → (place : Place) → (row_at rows k).here.place ≡ place
+same_numbers_at : (players : ℕ) (rows : List Row) (k : ℕ) → IsFaultless rows → k < length rows → (place : Place) → (row_at rows k).here.place ≡ place
     → HasOwn players rows place (row_at rows k).here.info → IfSome (number_at rows place (row_at rows k).here.info) (λ s. numbers_of players rows s ≡ (row_at rows k).here.numbers)
 same_numbers_at players rows k faultless l End e own = tt
 same_numbers_at players rows k faultless l Chance e own = tt
 same_numbers_at players rows k faultless l (Joint p) e own = tt
 same_numbers_at players rows k faultless l (Move p) e own =
-    let here = row_at rows k in
-    let first = first_row p here.here.info rows in
-    let none : against_numbers (row_at rows first) here p first k ≡ None = ap (λ (q : Place). fault_by false rows k here q) (sym e) ∙ faultless k l in
-    ap (λ (state : InfoState). (row_at rows (first_row state.player state.text rows)).here.numbers) (own_state players rows p here.here.info own.0 own.1)
-    ∙ (bytes_eq-Decides (row_at rows first).here.numbers here.here.numbers).0 (no_fault (bytes_eq (row_at rows first).here.numbers here.here.numbers) _ none)
+    ap (λ (state : InfoState). (row_at rows (first_row state.player state.text rows)).here.numbers) (own_state players rows p (row_at rows k).here.info own.0 own.1)
+    ∙ (like_first rows k p faultless l e).numbers
 
 -- what the number of a row's information state tells
 pub record IsRowState (tree : Whole) (k : ℕ) (state : Option ℕ) : Type 0 where

@@ -1,5 +1,5 @@
 -- The parts of a tree.
-use Rattle.std.proofs.Common.{◌≡◌, ℕ, ◌≤◌, false, List, length, ap, sym, subst, ◌∙◌, arith, refl}
+use Rattle.std.proofs.Common.{◌≡◌, ℕ, ◌≤◌, List, length, ap, sym, subst, ◌∙◌, arith, refl}
 use Rattle.std.specs.Prelude.{ℤ, pos}
 use Rattle.spiel_api.specs.Rules.{Rules}
 use Rattle.spiel_api.specs.Laws.{IsLawful}
@@ -22,7 +22,7 @@ whole_is r t unit players e f g =
 
 pub parts_fit : (r : Rules) (t : Rows) (starts firsts : List ℕ) (unit : ℤ) (players : ℕ) → IsLawful r → rows_of t ≡ rows r → unit ≡ pos r.unit → players ≡ r.players
     → IsBuilt t → length (rows r) ≤ 1048576 → length t.texts.items ≡ r.players
-    → AreStarts (length t.texts.items) (rows_of t) starts → AreFirsts (length t.texts.items) (rows_of t) firsts → IsFaultless false (rows_of t)
+    → AreStarts (length t.texts.items) (rows_of t) starts → AreFirsts (length t.texts.items) (rows_of t) firsts → IsFaultless (rows_of t)
     → IsTree (record { unit = unit; players = players; rows = rows_of t }) t starts firsts
 parts_fit r t starts firsts unit players lawful e f g built few texts starts_are firsts_are faultless =
     let same : length t.texts.items ≡ players = texts ∙ sym g in

@@ -32,21 +32,20 @@ same_past (a ∷ past) (b ∷ other) = cond (same_choice a b) (same_past past ot
 abbrev pub against_numbers : Row → Row → ℕ → ℕ → ℕ → Option Fault
 against_numbers first here p f k = cond (bytes_eq first.here.numbers here.here.numbers) None (Some (Actions p f k))
 
--- before them, where recall is asked for, the own pasts
-abbrev pub against : Bool → Row → Row → ℕ → ℕ → ℕ → Option Fault
-against false first here p f k = against_numbers first here p f k
-against true first here p f k = cond (same_past (own_past p first.way) (own_past p here.way)) (against_numbers first here p f k) (Some (Recall p f k))
+-- before them the own pasts
+abbrev pub against : Row → Row → ℕ → ℕ → ℕ → Option Fault
+against first here p f k = cond (same_past (own_past p first.way) (own_past p here.way)) (against_numbers first here p f k) (Some (Recall p f k))
 
-abbrev pub fault_by : Bool → List Row → ℕ → Row → Place → Option Fault
-fault_by recall rows k here End = None
-fault_by recall rows k here Chance = None
-fault_by recall rows k here (Move p) = against recall (row_at rows (first_row p here.here.info rows)) here p (first_row p here.here.info rows) k
-fault_by recall rows k here (Joint zero) = Some (Simultaneous k)
-fault_by recall rows k here (Joint (suc p)) = None
+abbrev pub fault_by : List Row → ℕ → Row → Place → Option Fault
+fault_by rows k here End = None
+fault_by rows k here Chance = None
+fault_by rows k here (Move p) = against (row_at rows (first_row p here.here.info rows)) here p (first_row p here.here.info rows) k
+fault_by rows k here (Joint zero) = Some (Simultaneous k)
+fault_by rows k here (Joint (suc p)) = None
 
 -- what is wrong at the row k
-abbrev pub fault_at : Bool → List Row → ℕ → Option Fault
-fault_at recall rows k = fault_by recall rows k (row_at rows k) (row_at rows k).here.place
+abbrev pub fault_at : List Row → ℕ → Option Fault
+fault_at rows k = fault_by rows k (row_at rows k) (row_at rows k).here.place
 
 -- ---- the first row with a fault decides
 -- as a function that computes: the first fault at the rows from k on, of which there are so many
@@ -54,27 +53,27 @@ abbrev pub first_of : Option Fault → Option Fault → Option Fault
 first_of None later = later
 first_of (Some fault) later = Some fault
 
-abbrev pub first_fault_from : Bool → List Row → ℕ → ℕ → Option Fault
-first_fault_from recall rows k zero = None
-first_fault_from recall rows k (suc n) = first_of (fault_at recall rows k) (first_fault_from recall rows (suc k) n)
+abbrev pub first_fault_from : List Row → ℕ → ℕ → Option Fault
+first_fault_from rows k zero = None
+first_fault_from rows k (suc n) = first_of (fault_at rows k) (first_fault_from rows (suc k) n)
 
-abbrev pub first_fault : Bool → List Row → Option Fault
-first_fault recall rows = first_fault_from recall rows 0 (length rows)
+abbrev pub first_fault : List Row → Option Fault
+first_fault rows = first_fault_from rows 0 (length rows)
 
 -- and as facts
-pub record IsFirst (recall : Bool) (rows : List Row) (fault : Fault) : Type 0 where
+pub record IsFirst (rows : List Row) (fault : Fault) : Type 0 where
   pub at : ℕ
   pub within : at < length rows
-  pub here : fault_at recall rows at ≡ Some fault
-  pub before : (k : ℕ) → k < at → fault_at recall rows k ≡ None
+  pub here : fault_at rows at ≡ Some fault
+  pub before : (k : ℕ) → k < at → fault_at rows k ≡ None
 
 -- no row shows anything wrong
-abbrev pub IsFaultless : Bool → List Row → Type 0
-IsFaultless recall rows = (k : ℕ) → k < length rows → fault_at recall rows k ≡ None
+abbrev pub IsFaultless : List Row → Type 0
+IsFaultless rows = (k : ℕ) → k < length rows → fault_at rows k ≡ None
 
-abbrev pub IsFirstFault : Bool → List Row → Option Fault → Type 0
-IsFirstFault recall rows None = IsFaultless recall rows
-IsFirstFault recall rows (Some fault) = IsFirst recall rows fault
+abbrev pub IsFirstFault : List Row → Option Fault → Type 0
+IsFirstFault rows None = IsFaultless rows
+IsFirstFault rows (Some fault) = IsFirst rows fault
 
 -- the rows that a fault names are among so many
 abbrev pub NamesRows : ℕ → Fault → Type 0

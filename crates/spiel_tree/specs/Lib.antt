@@ -3,6 +3,8 @@ pub mod Faults
 pub mod FirstSeen
 pub mod Flat
 pub mod Histories
+pub mod Pasts
+pub mod PerfectRecall
 pub mod Rows
 pub mod Shown
 pub mod States

@@ -1,5 +1,5 @@
 -- The tree of a game: what is told of it, and what is wrong with one.
-use Rattle.std.specs.Prelude.{◌≡◌, ℕ, ◌<◌, ◌≤◌, ℤ, pos, false, List, [], ◌∷◌, length, Option, Some, nat_lt, if◌then◌else◌, ⊤}
+use Rattle.std.specs.Prelude.{◌≡◌, ℕ, ◌<◌, ◌≤◌, ℤ, pos, List, [], ◌∷◌, length, Option, Some, nat_lt, if◌then◌else◌, ⊤}
 use Rattle.std.specs.Option.{option_map}
 use Rattle.spiel_api.specs.Rules.{Rules}
 use Rattle.spiel_api.specs.Laws.{IsLawful}
@@ -30,7 +30,7 @@ pub record IsGameTree (tree : Whole) : Type 0 where
   pub lawful : IsLawful rules
   pub is : tree ≡ tree_of rules
   pub few : length tree.rows ≤ 1048576
-  pub faultless : IsFaultless false tree.rows
+  pub faultless : IsFaultless tree.rows
 
 -- the columns are those of this tree
 pub record IsTree (tree : Whole) (flat : Rows) (starts firsts : List ℕ) : Type 0 where
@@ -51,7 +51,7 @@ fault_told rows (by_rows.Actions p f k) = told.Actions p (history_of (row_at row
 pub record IsTold (rules : Rules) (limit : ℕ) (fault : TreeFault) : Type 0 where
   pub few : length (rows rules) ≤ limit
   pub by : Fault
-  pub first : IsFirst false (rows rules) by
+  pub first : IsFirst (rows rules) by
   pub told : fault ≡ fault_told (rows rules) by
 
 -- why a game has no tree
@@ -62,7 +62,7 @@ IsFault rules limit fault = IsTold rules limit fault
 
 -- why a game has no tree, as a function that computes: too many histories come before all else
 unfoldable pub tree_fault : Rules → ℕ → Option TreeFault
-tree_fault rules limit = if nat_lt limit (length (rows rules)) then Some told.TooMany else option_map (fault_told (rows rules)) (first_fault false (rows rules))
+tree_fault rules limit = if nat_lt limit (length (rows rules)) then Some told.TooMany else option_map (fault_told (rows rules)) (first_fault (rows rules))
 
 -- the fault is the one that was computed, unless memory ran out
 abbrev pub IsComputed : Option TreeFault → TreeFault → Type 0

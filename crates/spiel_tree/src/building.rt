@@ -1,4 +1,4 @@
-ghost use Rattle.std.specs.Prelude.{◌≡◌, ◌<◌, ◌≤◌, ◌^◌, false, length, IfErr, IfOk, None};
+ghost use Rattle.std.specs.Prelude.{◌≡◌, ◌<◌, ◌≤◌, ◌^◌, length, IfErr, IfOk, None};
 ghost use Rattle.spiel_tree.specs.Faults.{IsFaultless, NamesRows};
 ghost use Rattle.spiel_tree.specs.Flat.{IsBuilt, StepsWithin, rows_of};
 ghost use Rattle.spiel_tree.specs.Trees.{IsComputed, IsFault, fault_told, tree_fault, tree_of};
@@ -48,16 +48,21 @@ fn told(alloc: Global, rows: &Rows, fault: Fault) -> Result<TreeFault, NoMemory>
 /// The tree of a game, or why it has none.
 ///
 /// `TooMany` comes exactly where the game has more histories than the limit. Else the first history
-/// in preorder decides at which players choose at once (`Simultaneous`), or at which the mover has
-/// other numbers than at the first history of the same information state (`Actions`). What players
-/// remember of their own choices isn't looked at, so `Recall` doesn't come.
+/// in preorder decides at which players choose at once (`Simultaneous`), at which the mover made other
+/// own choices before than at the first history of the same information state (`Recall`), or at which
+/// the mover has other numbers than there (`Actions`). Where a history shows both, it is `Recall`. So
+/// a game that has a tree has perfect recall (Kuhn 1953).
+///
+/// An own choice is what the player saw, and the number taken. What chance and other players did
+/// doesn't count. The choices are compared along the two plays, with no memory, in at most as many
+/// steps as the plays have numbers.
 pub fn build<G: Game>(alloc: Global, game: &G, limit: u32) -> Result<Tree, TreeFault>
     requires game { G.is_game game.now }
     requires low { 1 ≤ limit }
     requires high { limit ≤ 1048576 }
     ensures tree { IfOk result (λ tree. tree ≡ tree_of (G.rules game.now)) }
     ensures few { IfOk result (λ tree. length tree.rows ≤ limit) }
-    ensures faultless { IfOk result (λ tree. IsFaultless false tree.rows) }
+    ensures faultless { IfOk result (λ tree. IsFaultless tree.rows) }
     ensures fault { IfErr result (λ fault. IsFault (G.rules game.now) limit fault) }
     ensures computed_ok { IfOk result (λ tree. tree_fault (G.rules game.now) limit ≡ None) }
     ensures computed_err { IfErr result (λ fault. IsComputed (tree_fault (G.rules game.now) limit) fault) }

@@ -1,10 +1,11 @@
-ghost use Rattle.std.specs.Prelude.{◌≡◌, ◌<◌, ◌^◌, false, length};
-ghost use Rattle.spiel_tree.specs.Flat.{IsBuilt, row_at, rows_of};
+ghost use Rattle.std.specs.Prelude.{◌≡◌, ◌<◌, ◌^◌, length};
+ghost use Rattle.spiel_tree.specs.Flat.{IsBuilt, StepsWithin, row_at, rows_of};
 ghost use Rattle.spiel_tree.specs.States.{AreFirsts, AreStarts};
-ghost use Rattle.spiel_tree.specs.Faults.{against_numbers, fault_at, IsFirstFault};
+ghost use Rattle.spiel_tree.specs.Faults.{against, fault_at, IsFirstFault};
 
 use crate::flat::Rows;
 use crate::history::{flat_at, numbers_at};
+use crate::pasts::same_past;
 use spiel_api::Place;
 
 /// What is wrong with rows, by their places.
@@ -28,13 +29,22 @@ pub(crate) enum Fault {
     },
 }
 
-/// The numbers of a row against those of the first row of its information state.
+/// A row against the first row of its information state: first the mover's own choices on the two
+/// ways, then the numbers.
 fn against_first(rows: &Rows, player: u32, first: u32, row: u32) -> Option<Fault>
     requires built { IsBuilt rows.now }
+    requires steps { StepsWithin (rows_of rows.now) }
     requires first { first < length (rows_of rows.now) }
     requires row { row < length (rows_of rows.now) }
-    ensures { result ≡ against_numbers (row_at (rows_of rows.now) first) (row_at (rows_of rows.now) row) player first row }
+    ensures { result ≡ against (row_at (rows_of rows.now) first) (row_at (rows_of rows.now) row) player first row }
 {
+    if !same_past(rows, player, first, row) {
+        return Some(Fault::Recall {
+            player,
+            first,
+            second: row,
+        });
+    }
     if numbers_at(rows, first) == numbers_at(rows, row) {
         None
     } else {
@@ -46,13 +56,14 @@ fn against_first(rows: &Rows, player: u32, first: u32, row: u32) -> Option<Fault
     }
 }
 
-/// What is wrong at a row; own pasts aren't compared.
+/// What is wrong at a row.
 fn fault_at_row(rows: &Rows, starts: &[u32], firsts: &[u32], row: u32) -> Option<Fault>
     requires built { IsBuilt rows.now }
+    requires steps { StepsWithin (rows_of rows.now) }
     requires row { row < length (rows_of rows.now) }
     requires starts { AreStarts (length rows.now.texts.items) (rows_of rows.now) starts.now }
     requires firsts { AreFirsts (length rows.now.texts.items) (rows_of rows.now) firsts.now }
-    ensures { result ≡ fault_at false (rows_of rows.now) row }
+    ensures { result ≡ fault_at (rows_of rows.now) row }
 {
     let flat = flat_at(rows, row);
     match flat.place {
@@ -65,13 +76,14 @@ fn fault_at_row(rows: &Rows, starts: &[u32], firsts: &[u32], row: u32) -> Option
     }
 }
 
-/// The first fault, if there is one; own pasts aren't compared.
+/// The first fault, if there is one.
 pub(crate) fn first_fault(rows: &Rows, starts: &[u32], firsts: &[u32]) -> Option<Fault>
     requires built { IsBuilt rows.now }
+    requires steps { StepsWithin (rows_of rows.now) }
     requires fits { length (rows_of rows.now) < 2 ^ 32 }
     requires starts { AreStarts (length rows.now.texts.items) (rows_of rows.now) starts.now }
     requires firsts { AreFirsts (length rows.now.texts.items) (rows_of rows.now) firsts.now }
-    ensures { IsFirstFault false (rows_of rows.now) result }
+    ensures { IsFirstFault (rows_of rows.now) result }
 {
     for row in 0..rows.count() {
         if let Some(fault) = fault_at_row(rows, starts, firsts, row) {

@@ -6,6 +6,7 @@ mod faults;
 mod flat;
 mod history;
 mod node;
+mod pasts;
 mod states;
 #[cfg(test)]
 mod tests;

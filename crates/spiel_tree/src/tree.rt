@@ -1,6 +1,7 @@
 ghost use Rattle.std.specs.Prelude.{◌≡◌, ◌<◌, ◌≤◌, ◌^◌, length, pos, slice_index, slice_index_or, Contains, IfNone, IfSome};
 ghost use Rattle.spiel_api.specs.declared.place.Place.TheVariants.{Chance, End};
 ghost use Rattle.spiel_tree.specs.Flat.{IsBefore, row_at, rows_of, way_to};
+ghost use Rattle.spiel_tree.specs.PerfectRecall.{HasPerfectRecall};
 ghost use Rattle.spiel_tree.specs.States.{numbers_of, state_at, state_of, states_below};
 ghost use Rattle.spiel_tree.specs.Trees.{IsGameTree, IsParent, IsTree, last_index};
 
@@ -14,7 +15,8 @@ use std::marker::Model;
 
 /// The tree of a game: all its histories in preorder, each before those that go on from it, by the
 /// numbers in their order. It has at most 1,048,576 histories. Whoever moves at an information
-/// state has the same numbers at each of its histories, and nobody chooses at once with others.
+/// state made the same own choices before each of its histories (perfect recall, Kuhn 1953) and has
+/// the same numbers there, and nobody chooses at once with others.
 #[derive(Drop)]
 pub struct Tree {
     unit: i64,
@@ -40,19 +42,21 @@ impl Model for Tree {
 pub enum TreeFault {
     /// There are more histories than the limit.
     TooMany,
-    /// Players choose at once after this history, the first one of all.
+    /// Players choose at once after this history. No history before it shows a fault.
     Simultaneous {
         history: List<u32>,
     },
-    /// At the second history, the first one of all, the player remembers other choices than at the
-    /// first history of the same information state.
+    /// Before the second history the player made other own choices than before the first history of
+    /// the same information state: another number of them, another number taken, or another text
+    /// seen at one. No history before the second shows a fault.
     Recall {
         player: u32,
         first: List<u32>,
         second: List<u32>,
     },
-    /// At the second history, the first one of all, the player has other numbers than at the first
-    /// history of the same information state.
+    /// At the second history the player has other numbers than at the first history of the same
+    /// information state, before which the own choices were the same. No history before the second
+    /// shows a fault.
     Actions {
         player: u32,
         first: List<u32>,
@@ -122,11 +126,14 @@ impl Tree {
         self.players
     }
 
-    /// How many histories there are: the empty one at least.
+    /// How many histories there are: the empty one at least. The tree is that of a game, and it has
+    /// perfect recall, one list of numbers for each information state, and nobody who chooses at once
+    /// with others.
     pub fn histories(&self) -> u32
         ensures count { result ≡ length self.now.rows }
         ensures some { 1 ≤ result }
         ensures game { IsGameTree self.now }
+        ensures recall { HasPerfectRecall self.now.rows }
     {
         self.rows.count()
     }

@@ -1,5 +1,5 @@
-//! A chain, a game in which one play has the most numbers that a play may have, for the depth of the
-//! walk of `spiel_tree`.
+//! A chain, a game in which two plays have the most numbers that a play may have, for the depth of the
+//! walks of `spiel_tree`.
 ghost use Rattle.std.specs.Prelude.{◌≤◌};
 
 use spiel_api::{Game, Place};
@@ -7,8 +7,9 @@ use spiel_frac::{List, NoMemory, Text};
 use spiel_tree::{TreeFault, build};
 use std::alloc::Global;
 
-/// A chain of one player, who has the number 0 until the history has 4,096 numbers, and always sees
-/// the same. Nothing is paid. A state is the history.
+/// A chain of one player. Chance draws 0 or 1, each as likely as the other. Then the player, who
+/// doesn't see which, but how many numbers there were, has the number 0 until the history has 4,096
+/// numbers. Nothing is paid. A state is the history.
 #[derive(Clone, Copy)]
 struct Chain;
 
@@ -55,15 +56,19 @@ impl Game for Chain {
     }
 
     fn place(&self, state: &List<u32>) -> Place {
-        if state.items().len() < 4096 {
-            Place::Move(0)
-        } else {
-            Place::End
+        match state.items() {
+            [] => Place::Chance,
+            history if history.len() < 4096 => Place::Move(0),
+            _ => Place::End,
         }
     }
 
     fn legal_count(&self, state: &List<u32>, _player: u32) -> u32 {
-        if state.items().len() < 4096 { 1 } else { 0 }
+        match state.items() {
+            [] => 2,
+            history if history.len() < 4096 => 1,
+            _ => 0,
+        }
     }
 
     fn legal_at(&self, _state: &List<u32>, _player: u32, index: u32) -> u32 {
@@ -71,7 +76,7 @@ impl Game for Chain {
     }
 
     fn weight_at(&self, _state: &List<u32>, _index: u32) -> u64 {
-        0
+        1
     }
 
     fn pay(&self, _state: &List<u32>, _player: u32) -> i64 {
@@ -85,11 +90,12 @@ impl Game for Chain {
     fn info(
         &self,
         _alloc: Global,
-        _state: &List<u32>,
+        state: &List<u32>,
         _player: u32,
         out: &mut Text,
     ) -> Result<(), NoMemory> {
-        out.push(b"dark")
+        let count = state.items().len();
+        out.push(&[b'0' + (count / 64 % 64) as u8, b'0' + (count % 64) as u8])
     }
 
     fn action_name(
@@ -125,7 +131,8 @@ fn is_too_large(alloc: Global, limit: u32) -> bool
     }
 }
 
-/// Whether with this limit the game has 4,097 histories, and one information state.
+/// Whether with this limit the game has 8,193 histories, and the 4,095 information states of both
+/// plays.
 fn is_whole(alloc: Global, limit: u32) -> bool
     requires low { 1 ≤ limit }
     requires high { limit ≤ 1048576 }
@@ -133,11 +140,11 @@ fn is_whole(alloc: Global, limit: u32) -> bool
     let Ok(tree) = build(alloc, &Chain, limit) else {
         return false;
     };
-    tree.histories() == 4097 && tree.states() == 1
+    tree.histories() == 8193 && tree.states() == 4095
 }
 
 #[test]
-fn the_longest_play_has_a_tree(rt: HostRuntime) {
-    assert!(rt; is_whole(rt.alloc(), 4097));
-    assert!(rt; is_too_large(rt.alloc(), 4096));
+fn the_longest_plays_have_a_tree(rt: HostRuntime) {
+    assert!(rt; is_whole(rt.alloc(), 8193));
+    assert!(rt; is_too_large(rt.alloc(), 8192));
 }

@@ -19,6 +19,9 @@ new-requires g c =
     parts_fit r t c.in-Ok-starts.starts.items c.in-Ok-first_rows.firsts.items (to_z w64 (of_z w64 c.unit.result)) c.players.result (g.met.G.Game.lawful game c.requires.game)
     c.in-Ok.ensures.all.0 unit c.players.ensures c.in-Ok.ensures.all.1 few c.in-Ok.ensures.players c.in-Ok-starts.ensures c.in-Ok-first_rows.ensures c.in-None.ensures
 
+pub first_fault-requires-clause-steps : goal.first_fault-requires-clause-steps
+first_fault-requires-clause-steps g c = game_steps (g.G.Game.rules c.args.game.now) c.in-Ok.rows c.in-Ok.ensures.all.0
+
 pub told-requires-clause-steps : goal.told-requires-clause-steps
 told-requires-clause-steps g c = game_steps (g.G.Game.rules c.args.game.now) c.in-Ok.rows c.in-Ok.ensures.all.0
 
