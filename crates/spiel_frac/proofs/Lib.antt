@@ -1,4 +1,10 @@
 pub mod CommonMultiples
+pub mod Cuts
+pub mod DecimalNumbers
 pub mod Divisors
+pub mod Numerals
 pub mod Pieces
 pub mod Quotients
+pub mod ReadBack
+pub mod Spelled
+pub mod Tens

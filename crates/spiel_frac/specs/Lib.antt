@@ -1,5 +1,10 @@
 pub mod Adding
+pub mod Faults
 pub mod Fraction
 pub mod Multiples
+pub mod Numbers
 pub mod Packed
+pub mod Reading
+pub mod Spelling
+pub mod Values
 pub mod formers

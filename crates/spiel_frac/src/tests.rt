@@ -1,4 +1,8 @@
-use crate::{Frac, List, NoMemory, Packed, Text, lcm, write_frac, write_ratio};
+use crate::{
+    BadNumber, Frac, List, NoMemory, Packed, Text, lcm, read_frac, read_number, write_frac,
+    write_ratio,
+};
+use std::alloc::Global;
 use std::test::Fail;
 
 #[test]
@@ -169,6 +173,206 @@ fn lists_stand_one_after_another(rt: HostRuntime) -> Result<(), Fail> {
     for (k, row) in rows.iter().enumerate() {
         assert!(rt; k < lists.len());
         assert_eq!(rt; lists.at(k), *row, "{k}");
+    }
+    Ok(())
+}
+
+// Spellings, and the canonical text of each value.
+const READ: [(&str, &str); 46] = [
+    ("1", "1"),
+    ("+1", "1"),
+    ("-1", "-1"),
+    ("007", "7"),
+    ("1/2", "1/2"),
+    ("2/4", "1/2"),
+    ("-6/4", "-3/2"),
+    ("+6/004", "3/2"),
+    ("0", "0"),
+    ("-0", "0"),
+    ("0/5", "0"),
+    ("-0/5", "0"),
+    ("1.5", "3/2"),
+    (".5", "1/2"),
+    ("5.", "5"),
+    ("-.25", "-1/4"),
+    ("0.10", "1/10"),
+    ("1e3", "1000"),
+    ("1E3", "1000"),
+    ("1E-3", "1/1000"),
+    ("1e+18", "1000000000000000000"),
+    ("1e-18", "1/1000000000000000000"),
+    ("1e018", "1000000000000000000"),
+    ("1e000000000000000018", "1000000000000000000"),
+    ("1e-0", "1"),
+    ("1.5e1", "15"),
+    ("1.5e2", "150"),
+    ("1.25e1", "25/2"),
+    ("15e-1", "3/2"),
+    ("1.5e-1", "3/20"),
+    ("5.e1", "50"),
+    (".5e1", "5"),
+    ("-2.50E+1", "-25"),
+    ("0e18", "0"),
+    ("0.0e-18", "0"),
+    ("999999999999999999", "999999999999999999"),
+    ("-999999999999999999/1", "-999999999999999999"),
+    ("1/999999999999999999", "1/999999999999999999"),
+    ("0/999999999999999999", "0"),
+    ("000000000000000001", "1"),
+    ("0.000000000000000001", "1/1000000000000000000"),
+    (".000000000000000001e18", "1"),
+    ("123456789012345678.5", "246913578024691357/2"),
+    (
+        "-999999999999999999e18",
+        "-999999999999999999000000000000000000",
+    ),
+    (
+        "999999999999999999.999999999999999999",
+        "999999999999999999999999999999999999/1000000000000000000",
+    ),
+    (
+        ".000000000000000001e-18",
+        "1/1000000000000000000000000000000000000",
+    ),
+];
+
+const SHAPELESS: [&str; 37] = [
+    "",
+    "+",
+    "-",
+    ".",
+    "-.",
+    "/",
+    "e",
+    ".e1",
+    "e1",
+    "1e",
+    "1e+",
+    "1e1.5",
+    "1e--1",
+    "1e1e1",
+    "1E1e1",
+    "1/",
+    "/2",
+    "1/2e3",
+    "1/2.5",
+    "1.5/2",
+    "1//2",
+    "1/2/3",
+    "1/-2",
+    "1/+2",
+    " 1",
+    "1 ",
+    "1 /2",
+    "--1",
+    "+-1",
+    "1.2.3",
+    "1,5",
+    "0x10",
+    "inf",
+    "1234567890123456789x",
+    "1234567890123456789/",
+    "1234567890123456789e1.",
+    "1/0x",
+];
+
+const TOO_LONG: [&str; 11] = [
+    "1e19",
+    "1e-19",
+    "1e0000000000000000018",
+    "1000000000000000000",
+    "0000000000000000001",
+    "1000000000000000000/2",
+    "1/1000000000000000000",
+    ".0000000000000000001",
+    "1000000000000000000.5",
+    "1000000000000000000/0",
+    "0/0000000000000000000",
+];
+
+const OVER_ZERO: [&str; 5] = ["1/0", "0/0", "-1/0", "1/000", "1/000000000000000000"];
+
+fn reads_as(alloc: Global, text: &str, canonical: &str) -> bool {
+    match rewritten(alloc, text) {
+        Some(written) => written.bytes() == canonical.as_bytes(),
+        None => false,
+    }
+}
+
+fn rewritten(alloc: Global, text: &str) -> Option<Text> {
+    let value = read_frac(text.as_bytes()).ok()?;
+    let mut out = Text::new(alloc);
+    write_frac(alloc, value, &mut out).ok()?;
+    Some(out)
+}
+
+fn is_refused(text: &str, fault: BadNumber) -> bool {
+    match read_frac(text.as_bytes()) {
+        Ok(_value) => false,
+        Err(answer) => answer == fault,
+    }
+}
+
+#[test]
+fn texts_are_fractions(rt: HostRuntime) {
+    for (text, canonical) in READ {
+        assert!(rt; reads_as(rt.alloc(), text, canonical), "{text}");
+    }
+}
+
+#[test]
+fn texts_are_refused(rt: HostRuntime) {
+    for text in SHAPELESS {
+        assert!(rt; is_refused(text, BadNumber::Shape), "{text}");
+    }
+    for text in TOO_LONG {
+        assert!(rt; is_refused(text, BadNumber::Digits), "{text}");
+    }
+    for text in OVER_ZERO {
+        assert!(rt; is_refused(text, BadNumber::ZeroDenominator), "{text}");
+    }
+}
+
+const NUMBERS: [(&str, u32); 5] = [
+    ("0", 0),
+    ("7", 7),
+    ("10", 10),
+    ("4294967290", 4_294_967_290),
+    ("4294967295", 4_294_967_295),
+];
+
+const NUMBERLESS: [&str; 10] = [
+    "",
+    "00",
+    "07",
+    "4294967296",
+    "18446744073709551616",
+    "+7",
+    "-0",
+    "7 ",
+    "1.",
+    "1e1",
+];
+
+#[test]
+fn texts_are_numbers(rt: HostRuntime) {
+    for (text, number) in NUMBERS {
+        assert!(rt; read_number(text.as_bytes()) == Some(number), "{text}");
+    }
+    for text in NUMBERLESS {
+        assert!(rt; read_number(text.as_bytes()).is_none(), "{text}");
+    }
+}
+
+#[test]
+fn bad_numbers_have_texts(rt: HostRuntime) -> Result<(), Fail> {
+    let rows = [
+        (BadNumber::Shape, "no number"),
+        (BadNumber::Digits, "number with too many digits"),
+        (BadNumber::ZeroDenominator, "number with a denominator of 0"),
+    ];
+    for (fault, want) in rows {
+        assert_eq!(rt; fault.to_string(rt.alloc())?.as_str(), want);
     }
     Ok(())
 }
