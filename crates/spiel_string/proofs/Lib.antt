@@ -20,3 +20,4 @@ pub mod Sorting
 pub mod ReadBack
 pub mod OneAnswer
 pub mod WellRead
+pub mod Answered

@@ -16,7 +16,7 @@ use Rattle.spiel_string.proofs.SyntaxPlaces.{one_tree}
 
 -- ---- values
 
-one_value : (text : List ℕ) (g h : Game) → IsRead text g → IsRead text h → g ≡ h
+pub one_value : (text : List ℕ) (g h : Game) → IsRead text g → IsRead text h → g ≡ h
 one_value text g h r q = r.value ∙ ap (λ (t : Whole). game_of t.top) (one_tree r.tree q.tree text r.spells q.spells) ∙ sym q.value
 
 same_nesting : (text : List ℕ) (t u : Whole) → Spells t text → Spells u text → nesting t.top ≡ nesting u.top
@@ -27,7 +27,7 @@ same_seconds text t u h q = ap (λ (t : Whole). second_keys t.top []) (one_tree 
 
 -- ---- a value and a fault
 
-not_both : (text : List ℕ) (g : Game) (fault : StringFault) → IsRead text g → IsFaultOf text fault → ⊥
+pub not_both : (text : List ℕ) (g : Game) (fault : StringFault) → IsRead text g → IsFaultOf text fault → ⊥
 not_both text g TooLong r f = let short = r.short in omega (arith, short, f)
 not_both text g (Syntax at) r f = f.1.refused (r.tree, r.spells)
 not_both text g TooDeep r f =
@@ -61,7 +61,7 @@ deep_or_not : (text : List ℕ) (p : ℕ) → IsTooDeep text → IsRepeated text
 deep_or_not text p a b =
     let same = same_nesting text a.tree b.tree a.spells b.spells in let more = a.deep in let few = b.shallow in omega (arith, same, more, few)
 
-one_fault : (text : List ℕ) (fault answer : StringFault) → IsFaultOf text fault → IsFaultOf text answer → answer ≡ fault
+pub one_fault : (text : List ℕ) (fault answer : StringFault) → IsFaultOf text fault → IsFaultOf text answer → answer ≡ fault
 one_fault text TooLong TooLong f a = refl
 one_fault text TooLong (Syntax q) f a = absurd (let short = a.0 in omega (arith, f, short))
 one_fault text TooLong TooDeep f a = absurd (let short = a.short in omega (arith, f, short))

@@ -1,4 +1,5 @@
 pub mod Alphabet
+pub mod Answer
 pub mod Canonical
 pub mod Faults
 pub mod Game

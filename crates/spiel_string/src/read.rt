@@ -1,4 +1,5 @@
-ghost use Rattle.std.specs.Prelude.{◌≡◌, ◌<◌, ◌≤◌, ◌+◌, length, IfOk, IfErr, MatchBool};
+ghost use Rattle.std.specs.Prelude.{◌≡◌, ◌<◌, ◌≤◌, ◌+◌, length, IfOk, IfErr, MatchBool, MatchResult, Ok};
+ghost use Rattle.spiel_string.specs.Answer.{reading, IsAnswer, IsComputed};
 ghost use Rattle.spiel_string.specs.Game.{Game};
 ghost use Rattle.spiel_string.specs.Grammar.{IsSyntaxPlace};
 ghost use Rattle.spiel_string.specs.Reading.{most_bytes, IsRead, IsFaultOf, MayRefuse, Gives, Refuses};
@@ -121,6 +122,10 @@ pub fn read_game(alloc: Global, text: &[u8]) -> Result<GameText, StringFault>
     // What can be read is read, and a fault is answered, unless memory runs out.
     ensures read { (game : Game) → IsRead text.now game → Gives game result }
     ensures fault { (fault : StringFault) → IsFaultOf text.now fault → Refuses fault result }
+
+    // The same as a function of the text, which is what the grammar tells.
+    ensures computed { MatchResult result (λ game. reading text.now ≡ Ok (view game)) (IsComputed (reading text.now)) }
+    ensures exact { IsAnswer text.now (reading text.now) }
 
     ensures well_formed { IfOk result (λ game. EachGame IsWellFormed (view game)) }
 {

@@ -1,0 +1,7 @@
+mod Answered
+mod FirstLine
+mod OneFile
+mod PlainGames
+mod Reading
+mod Texts
+mod WrittenFiles

@@ -1,0 +1,5 @@
+pub mod Answer
+pub mod Faults
+pub mod Lines
+pub mod Numbers
+pub mod Saved
