@@ -1,0 +1,13 @@
+pub mod Agreement
+pub mod Built
+pub mod Commands
+pub mod Ends
+pub mod Examples
+pub mod Filled
+pub mod Found
+pub mod Lookups
+pub mod Names
+pub mod Rows
+pub mod Sayings
+pub mod Turns
+pub mod Walks

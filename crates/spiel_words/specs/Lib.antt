@@ -1,0 +1,4 @@
+pub mod Found
+pub mod Line
+pub mod Rules
+pub mod Verbs
