@@ -1,6 +1,8 @@
 //! Plays of Kuhn poker, worked by hand from its rules.
 ghost use Rattle.std.specs.Prelude.{◌<◌};
 
+mod leduc;
+
 use crate::Kuhn;
 use spiel_api::{Game, Place, WalkFault, walk};
 use spiel_frac::{NoMemory, Text};
@@ -55,7 +57,7 @@ fn illegal_numbers_are_found(rt: HostRuntime) {
 }
 
 /// The information text of whoever moves, and each legal number with its name.
-fn shown<G: Game>(alloc: Global, game: &G, state: &G::State) -> Result<Text, NoMemory>
+pub fn shown<G: Game>(alloc: Global, game: &G, state: &G::State) -> Result<Text, NoMemory>
     requires { G.is_at game.now state.now }
 {
     let mut out = Text::new(alloc);

@@ -1,0 +1,5 @@
+pub mod TicTacToe
+pub mod TicTacToeState
+pub mod TicTacToePlays
+pub mod TicTacToeLaws
+pub mod Inductions

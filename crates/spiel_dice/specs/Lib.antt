@@ -1,0 +1,5 @@
+pub mod LiarsDice
+pub mod LiarsDiceState
+pub mod LiarsDicePlays
+pub mod LiarsDiceLaws
+pub mod Inductions

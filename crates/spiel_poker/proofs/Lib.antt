@@ -1,0 +1,4 @@
+pub mod Moves
+pub mod Said
+pub mod Steps
+pub mod Texts
