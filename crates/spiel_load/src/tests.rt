@@ -1,0 +1,223 @@
+//! What game strings name, from the games' tables of parameters.
+ghost use Rattle.std.specs.Prelude.{IfOk, IfSome};
+ghost use Rattle.spiel_load.specs.Base.{IsBaseGame};
+
+use crate::{Any, LoadFault, load};
+use spiel_api::Game;
+use spiel_frac::{NoMemory, Text};
+use spiel_string::read_game;
+use std::alloc::Global;
+use std::test::Fail;
+
+// Strings that name a game, with its greatest return and how many outcomes or moves it begins with.
+const NAMED: [(&str, i64, u32); 16] = [
+    ("kuhn_poker", 2, 3),
+    ("kuhn_poker()", 2, 3),
+    ("kuhn_poker(players=2)", 2, 3),
+    ("kuhn_poker(players=0002)", 2, 3),
+    (" kuhn_poker ( players = 2 ) ", 2, 3),
+    ("leduc_poker", 13, 6),
+    ("leduc_poker(players=2)", 13, 6),
+    ("tic_tac_toe", 1, 9),
+    ("tic_tac_toe()", 1, 9),
+    ("liars_dice", 1, 6),
+    ("liars_dice(numdice=1,dice_sides=6,players=2)", 1, 6),
+    ("liars_dice(dice_sides=2)", 1, 2),
+    ("liars_dice(dice_sides=20)", 1, 20),
+    ("liars_dice(numdice=5)", 1, 6),
+    ("liars_dice(numdice=5,dice_sides=3)", 1, 3),
+    ("liars_dice(dice_sides=4,numdice=2)", 1, 4),
+];
+
+// Strings with a name that no game has.
+const UNKNOWN_GAMES: [(&str, &str); 6] = [
+    ("kuhn", "kuhn"),
+    ("kuhn_poker_", "kuhn_poker_"),
+    ("liars_dic(numdice=1)", "liars_dic"),
+    // before anything that is given
+    ("chess(players=3,z=1)", "chess"),
+    ("tictactoe", "tictactoe"),
+    ("leduc(players=2)", "leduc"),
+];
+
+// Strings with a key that the game hasn't.
+const UNKNOWN_KEYS: [(&str, &str, &str); 10] = [
+    ("kuhn_poker(a=1)", "kuhn_poker", "a"),
+    ("kuhn_poker(player=2)", "kuhn_poker", "player"),
+    // before a bad value, wherever it stands
+    ("kuhn_poker(a=1,players=3)", "kuhn_poker", "a"),
+    ("kuhn_poker(players=3,z=1)", "kuhn_poker", "z"),
+    ("kuhn_poker(z=1,players=3)", "kuhn_poker", "z"),
+    // the first in byte order
+    ("kuhn_poker(a=1,b=2)", "kuhn_poker", "a"),
+    ("kuhn_poker(b=2,a=1)", "kuhn_poker", "a"),
+    ("tic_tac_toe(players=2)", "tic_tac_toe", "players"),
+    ("leduc_poker(numdice=1)", "leduc_poker", "numdice"),
+    ("liars_dice(numdice=6,sides=6)", "liars_dice", "sides"),
+];
+
+// Strings with a value that isn't one that the parameter may have.
+const BAD_VALUES: [(&str, &str, &str); 20] = [
+    ("kuhn_poker(players=3)", "kuhn_poker", "players"),
+    ("kuhn_poker(players=1)", "kuhn_poker", "players"),
+    ("kuhn_poker(players=-2)", "kuhn_poker", "players"),
+    ("kuhn_poker(players=True)", "kuhn_poker", "players"),
+    ("kuhn_poker(players=x)", "kuhn_poker", "players"),
+    ("kuhn_poker(players=f())", "kuhn_poker", "players"),
+    // a number with too many digits is a word
+    (
+        "kuhn_poker(players=0000000000000000002)",
+        "kuhn_poker",
+        "players",
+    ),
+    ("leduc_poker(players=1)", "leduc_poker", "players"),
+    ("leduc_poker(players=3)", "leduc_poker", "players"),
+    ("liars_dice(numdice=0)", "liars_dice", "numdice"),
+    ("liars_dice(numdice=6)", "liars_dice", "numdice"),
+    ("liars_dice(numdice=-1)", "liars_dice", "numdice"),
+    ("liars_dice(dice_sides=1)", "liars_dice", "dice_sides"),
+    ("liars_dice(dice_sides=21)", "liars_dice", "dice_sides"),
+    ("liars_dice(dice_sides=-6)", "liars_dice", "dice_sides"),
+    ("liars_dice(numdice=4294967297)", "liars_dice", "numdice"),
+    ("liars_dice(players=3)", "liars_dice", "players"),
+    // the first in byte order
+    (
+        "liars_dice(numdice=6,dice_sides=1)",
+        "liars_dice",
+        "dice_sides",
+    ),
+    (
+        "liars_dice(dice_sides=1,numdice=6)",
+        "liars_dice",
+        "dice_sides",
+    ),
+    ("liars_dice(players=1,numdice=9)", "liars_dice", "numdice"),
+];
+
+// Whether the game has two players, this cap, and begins with so many outcomes or moves.
+fn begins_with<G: Game>(alloc: Global, game: &G, cap: i64, count: u32) -> Result<bool, NoMemory>
+    requires { G.is_game game.now }
+{
+    if game.players() != 2 {
+        return Ok(false);
+    }
+    let state = game.start(alloc)?;
+    Ok(game.pay_cap() == cap && game.legal_count(&state, 0) == count)
+}
+
+// What a string names, or its fault, where it is a game string.
+fn loaded(alloc: Global, text: &[u8]) -> Option<Result<Any, LoadFault>>
+    ensures { IfSome result (λ answer. IfOk answer IsBaseGame) }
+{
+    let game = read_game(alloc, text).ok()?;
+    Some(load(alloc, &game))
+}
+
+fn names(alloc: Global, text: &[u8], cap: i64, count: u32) -> bool {
+    match loaded(alloc, text) {
+        Some(Ok(game)) => matches!(begins_with(alloc, &game, cap, count), Ok(true)),
+        _ => false,
+    }
+}
+
+fn is_unknown_game(alloc: Global, text: &[u8], name: &[u8]) -> bool {
+    match loaded(alloc, text) {
+        Some(Err(LoadFault::UnknownGame { name: told })) => told.bytes() == name,
+        _ => false,
+    }
+}
+
+fn is_unknown_key(alloc: Global, text: &[u8], name: &[u8], key: &[u8]) -> bool {
+    match loaded(alloc, text) {
+        Some(
+            Err(
+                LoadFault::UnknownParam {
+                    name: told,
+                    key: at,
+                },
+            ),
+        ) => told.bytes() == name && at.bytes() == key,
+        _ => false,
+    }
+}
+
+fn is_bad_value(alloc: Global, text: &[u8], name: &[u8], key: &[u8]) -> bool {
+    match loaded(alloc, text) {
+        Some(
+            Err(
+                LoadFault::BadParam {
+                    name: told,
+                    key: at,
+                },
+            ),
+        ) => told.bytes() == name && at.bytes() == key,
+        _ => false,
+    }
+}
+
+#[test]
+fn games_are_named(rt: HostRuntime) {
+    for (text, cap, count) in NAMED {
+        assert!(rt; names(rt.alloc(), text.as_bytes(), cap, count), "{text}");
+    }
+}
+
+#[test]
+fn faults_name_the_game_and_the_key(rt: HostRuntime) {
+    for (text, name) in UNKNOWN_GAMES {
+        assert!(rt;
+            is_unknown_game(rt.alloc(), text.as_bytes(), name.as_bytes()),
+            "{text}"
+        );
+    }
+    for (text, name, key) in UNKNOWN_KEYS {
+        assert!(rt;
+            is_unknown_key(rt.alloc(), text.as_bytes(), name.as_bytes(), key.as_bytes()),
+            "{text}"
+        );
+    }
+    for (text, name, key) in BAD_VALUES {
+        assert!(rt;
+            is_bad_value(rt.alloc(), text.as_bytes(), name.as_bytes(), key.as_bytes()),
+            "{text}"
+        );
+    }
+}
+
+fn text(alloc: Global, bytes: &[u8]) -> Result<Text, NoMemory> {
+    let mut text = Text::new(alloc);
+    text.push(bytes)?;
+    Ok(text)
+}
+
+#[test]
+fn faults_have_texts(rt: HostRuntime) -> Result<(), Fail> {
+    let alloc = rt.alloc();
+    let rows = [
+        (
+            LoadFault::UnknownGame {
+                name: text(alloc, b"chess")?,
+            },
+            "unknown game chess",
+        ),
+        (
+            LoadFault::UnknownParam {
+                name: text(alloc, b"kuhn_poker")?,
+                key: text(alloc, b"sides")?,
+            },
+            "unknown parameter sides of kuhn_poker",
+        ),
+        (
+            LoadFault::BadParam {
+                name: text(alloc, b"liars_dice")?,
+                key: text(alloc, b"numdice")?,
+            },
+            "bad parameter numdice of liars_dice",
+        ),
+        (LoadFault::NoMemory, "no memory"),
+    ];
+    for (fault, want) in rows {
+        assert_eq!(rt; fault.to_string(alloc)?.as_str(), want);
+    }
+    Ok(())
+}
