@@ -1,1 +1,16 @@
+pub mod AsciiTexts
+pub mod Choices
+pub mod FileRead
+pub mod GivenWeights
+pub mod InfoStates
+pub mod JsonBytes
+pub mod Missing
+pub mod Numbers
+pub mod PlainData
 pub mod Profiles
+pub mod ReadBack
+pub mod Reduced
+pub mod Shapes
+pub mod Steps
+pub mod Weights
+pub mod Written

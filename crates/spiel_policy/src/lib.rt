@@ -1,8 +1,21 @@
 //! Profiles: how likely each choice is at each information state of a tree, exactly.
 #![tactic(auto)]
 
+mod entries;
+mod fault;
+mod given;
+mod heads;
 mod made;
 mod policy;
+mod reading;
+mod tables;
+#[cfg(test)]
+mod tests;
+mod weighing;
+mod writing;
 
+pub use fault::PolicyFault;
 pub use made::{first_action, uniform};
 pub use policy::Policy;
+pub use reading::read_policy;
+pub use writing::write_policy;

@@ -16,6 +16,7 @@ pub mod StateChoices
 pub mod StateCounts
 pub mod StateMoves
 pub mod StateNumbers
+pub mod StatePlayers
 pub mod StateReading
 pub mod Stops
 pub mod TreeLaws

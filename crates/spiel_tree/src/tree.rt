@@ -145,13 +145,21 @@ impl Tree {
         self.firsts.len() as u32
     }
 
-    /// Who moves at an information state. They are numbered by player, and within a player by their
-    /// first histories.
-    pub fn state_player(&self, state: u32) -> u32
+    fn player_at(&self, state: u32) -> u32
         requires { state < length (states_below self.now.players self.now.rows) }
         ensures { result ≡ (state_at self.now.players self.now.rows state).player }
     {
         player_of(&self.rows, &self.starts, state)
+    }
+
+    /// Who moves at an information state. They are numbered by player, and within a player by their
+    /// first histories.
+    pub fn state_player(&self, state: u32) -> u32
+        requires { state < length (states_below self.now.players self.now.rows) }
+        ensures player { result ≡ (state_at self.now.players self.now.rows state).player }
+        ensures within { result < self.now.players }
+    {
+        self.player_at(state)
     }
 
     /// What the mover sees at an information state.

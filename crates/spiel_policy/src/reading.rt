@@ -1,0 +1,145 @@
+ghost use Rattle.std.specs.Prelude.{◌≡◌, ◌<◌, ◌+◌, ℕ, Err, length, count_by, is_some, Some, Ok, IfSome, IfNone, IfOk, OnOk, MatchResult, All};
+ghost use Rattle.std.specs.List.Sorted.{IsStrictlyIncreasing};
+ghost use Rattle.serde_json.specs.View.{items_view, view};
+ghost use Rattle.spiel_tree.specs.States.{numbers_of, states_below};
+ghost use Rattle.spiel_tree.specs.Trees.{IsGameTree};
+ghost use Rattle.spiel_policy.specs.Entries.{IsFair};
+ghost use Rattle.spiel_policy.specs.Given.{IsFor};
+ghost use Rattle.spiel_policy.specs.Reading.{IsComputed, none_given, policy_of, profile_of_data, state_named, weights_at, with_data, with_entries};
+ghost use Rattle.spiel_policy.specs.Profiles.{AreReduced, Fits};
+ghost use Rattle.spiel_policy.specs.declared.fault.PolicyFault.TheVariants.{Missing};
+
+use crate::entries::{Entry, Pair, entry_of};
+use crate::fault::PolicyFault;
+use crate::given::Given;
+use crate::heads::{entries_of, json_of};
+use crate::policy::Policy;
+use crate::weighing::{choices_of, weights_of_whole, whole_weight};
+use serde_json::Value;
+use spiel_frac::List;
+use spiel_tree::Tree;
+use std::alloc::Global;
+
+/// The information state that an entry is for.
+fn state_named(tree: &Tree, entry: &Entry) -> Option<u32>
+    ensures value { result ≡ state_named tree.now entry.now.player entry.now.text }
+    ensures within { IfSome result (λ state. state < length (states_below tree.now.players tree.now.rows)) }
+{
+    if entry.player >= tree.players() {
+        return None;
+    }
+    tree.find(entry.player, entry.text.bytes())
+}
+
+/// The weights that the pairs of an entry give the numbers of an information state.
+fn weights_at(
+    alloc: Global,
+    tree: &Tree,
+    state: u32,
+    number: u32,
+    pairs: &[Pair],
+) -> Result<List<u128>, PolicyFault>
+    requires game { IsGameTree tree.now }
+    requires state { state < length (states_below tree.now.players tree.now.rows) }
+    requires fair { All (λ pair. IsFair pair.weight) pairs.now }
+    ensures answer { MatchResult result
+        (λ weights. weights_at (numbers_of tree.now.players tree.now.rows state) number pairs.now ≡ Ok weights)
+        (IsComputed (weights_at (numbers_of tree.now.players tree.now.rows state) number pairs.now)) }
+    ensures reduced { IfOk result AreReduced }
+{
+    let found = choices_of(alloc, tree, state, pairs)?;
+    let choices = found.ok_or(PolicyFault::Action { entry: number })?;
+    let whole = whole_weight(pairs).ok_or(PolicyFault::Overflow { entry: number })?;
+    weights_of_whole(alloc, choices.as_slice(), whole)?.ok_or(PolicyFault::Sum { entry: number })
+}
+
+/// Takes the entry that a value is.
+fn take_entry(
+    alloc: Global,
+    tree: &Tree,
+    given: &mut Given,
+    number: u32,
+    value: &Value,
+) -> Result<(), PolicyFault>
+    requires game { IsGameTree tree.now }
+    requires for_tree { IsFor tree.now given.old }
+    ensures answer { MatchResult result
+        (λ done. with_data tree.now given.old number (view value.now) ≡ Ok given.new)
+        (IsComputed (with_data tree.now given.old number (view value.now))) }
+    ensures for_tree { OnOk result (IsFor tree.now given.new) }
+    ensures counted { OnOk result (count_by is_some given.new ≡ count_by is_some given.old + 1) }
+{
+    let entry = entry_of(alloc, value)?.ok_or(PolicyFault::Shape { entry: number })?;
+    let state = state_named(tree, &entry).ok_or(PolicyFault::UnknownState { entry: number })?;
+    if given.has(state) {
+        return Err(PolicyFault::Repeated { entry: number });
+    }
+    let weights = weights_at(alloc, tree, state, number, entry.pairs.items())?;
+    given.add(state, weights.items())?;
+    Ok(())
+}
+
+/// Takes the entries in order.
+fn take_entries(alloc: Global, tree: &Tree, values: &[Value]) -> Result<Given, PolicyFault>
+    requires { IsGameTree tree.now }
+    ensures answer { MatchResult result
+        (λ given. with_entries tree.now (none_given tree.now) 0 (items_view values.now) ≡ Ok given)
+        (IsComputed (with_entries tree.now (none_given tree.now) 0 (items_view values.now))) }
+    ensures for_tree { IfOk result (IsFor tree.now) }
+{
+    let mut given = Given::new(alloc, tree.states())?;
+    let mut number = 0u32;
+    for value in values {
+        take_entry(alloc, tree, &mut given, number, value)?;
+        number += 1;
+    }
+    Ok(given)
+}
+
+/// The policy that a JSON value gives for a tree.
+#[tactic(auto, using(crate::proofs::Steps::fits_if))]
+fn policy_of(alloc: Global, tree: &Tree, value: &Value) -> Result<Policy, PolicyFault>
+    ensures answer { MatchResult result
+        (λ policy. profile_of_data tree.now (view value.now) ≡ Ok policy)
+        (IsComputed (profile_of_data tree.now (view value.now))) }
+    ensures fits { IfOk result (Fits tree.now) }
+{
+    // The tree is that of a game, whose numbers rise.
+    let _histories = tree.histories();
+    let entries = entries_of(value).ok_or(PolicyFault::Head)?;
+    let given = take_entries(alloc, tree, entries)?;
+    given.policy(alloc)
+}
+
+// The policy of a file for a tree, or the first thing that is wrong with the file.
+#[tactic(auto, unfolding(crate::specs::Reading::policy_of))]
+fn read_file(alloc: Global, tree: &Tree, bytes: &[u8]) -> Result<Policy, PolicyFault>
+    ensures answer { MatchResult result
+        (λ policy. policy_of tree.now bytes.now ≡ Ok policy)
+        (IsComputed (policy_of tree.now bytes.now)) }
+    ensures fits { IfOk result (Fits tree.now) }
+{
+    let value = json_of(alloc, bytes)?;
+    policy_of(alloc, tree, &value)
+}
+
+/// The policy that a policy file gives for a tree, or the first thing that is wrong with the file.
+///
+/// A policy file is a JSON object (RFC 8259) with exactly two members: `policy` is the number 1, and
+/// `states` is an array of entries. Each entry is an object with exactly three members: `player` is
+/// a whole number of 32 bits, `state` is the text of an information state of that player, and
+/// `actions` is an array of pairs `[number, weight]`. A weight is a text that `spiel_frac::read_frac`
+/// reads and that isn't negative, or a whole number of 64 bits. Of members with one name the last
+/// counts. Whole numbers are written without a point and without an exponent.
+///
+/// Each information state has one entry, in any order. The total of its weights is the least common
+/// multiple of their denominators; numbers that aren't named have the weight 0.
+pub fn read_policy(alloc: Global, tree: &Tree, bytes: &[u8]) -> Result<Policy, PolicyFault>
+    ensures answer { MatchResult result
+        (λ policy. policy_of tree.now bytes.now ≡ Ok policy)
+        (IsComputed (policy_of tree.now bytes.now)) }
+    ensures fits { IfOk result (Fits tree.now) }
+    ensures missing { (state : ℕ) → result ≡ Err (Missing state) → state < length (states_below tree.now.players tree.now.rows) }
+{
+    read_file(alloc, tree, bytes)
+}
