@@ -59,7 +59,7 @@ nat_abs-add-le (pos a) (negsuc b) = grind (arith, ints)
 nat_abs-add-le (negsuc a) (pos b) = grind (arith, ints)
 nat_abs-add-le (negsuc a) (negsuc b) = omega arith
 
-sum_over-le : (f : Row → ℤ) (g : Row → ℕ) → ((x : Row) → nat_abs (f x) ≤ g x) → (xs : List Row) → nat_abs (sum_over f xs) ≤ sum_by g xs
+pub sum_over-le : (f : Row → ℤ) (g : Row → ℕ) → ((x : Row) → nat_abs (f x) ≤ g x) → (xs : List Row) → nat_abs (sum_over f xs) ≤ sum_by g xs
 sum_over-le f g l [] = omega arith
 sum_over-le f g l (x ∷ xs) = omega (arith, nat_abs-add-le (f x) (sum_over f xs), l x, sum_over-le f g l xs, sum_by-cons g x xs)
 

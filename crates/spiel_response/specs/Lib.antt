@@ -1,5 +1,12 @@
+pub mod Answered
+pub mod BestResponses
 pub mod Faults
+pub mod Greatest
 pub mod Reach
+pub mod Remembered
+pub mod Responses
+pub mod SlotTable
+pub mod Slots
 pub mod Summed
 pub mod Values
 pub mod Weighed

@@ -25,7 +25,7 @@ fn chance_total(tree: &Tree, row: u32) -> u128
 }
 
 /// The information state of a history at which somebody moves.
-fn mover_state(tree: &Tree, row: u32, player: u32) -> u32
+pub(crate) fn mover_state(tree: &Tree, row: u32, player: u32) -> u32
     requires within { row < length tree.now.rows }
     requires moves { (row_at tree.now.rows row).here.place ≡ Move player }
     ensures state { result ≡ state_number tree.now.rows player (row_at tree.now.rows row).here.info }

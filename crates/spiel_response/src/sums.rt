@@ -1,13 +1,15 @@
-ghost use Rattle.std.specs.Prelude.{◌≡◌, ◌+◌, ◌<◌, ◌≤◌, length, map, pos, Some, None, IfErr, IfNone, IfOk, IfSome, ◌+ℤ◌, ◌*ℤ◌, nat_abs};
+ghost use Rattle.std.specs.Prelude.{◌≡◌, ◌+◌, ◌<◌, ◌≤◌, length, map, pos, Some, None, IfErr, IfNone, IfOk, IfSome, OnOk, ◌+ℤ◌, ◌*ℤ◌, nat_abs};
 ghost use Rattle.spiel_frac.specs.Fraction.{most};
 ghost use Rattle.spiel_tree.specs.Flat.{row_at};
 ghost use Rattle.spiel_response.specs.Faults.{OverflowsOnlyIf};
 ghost use Rattle.spiel_response.specs.Reach.{reach, scale_of};
 ghost use Rattle.spiel_response.specs.Values.{size_below, size_for, values_below};
 ghost use Rattle.spiel_response.specs.Weighed.{size_before};
+ghost use Rattle.spiel_response.specs.SlotTable.{AreSlotSums};
 ghost use Rattle.spiel_response.specs.Summed.{AreSums, ArePlayerSums};
 
 use crate::fault::JudgeFault;
+use crate::gathering::{Gathered, gather};
 use crate::reach::all_reached;
 use crate::scale::MOST;
 use crate::weighed::Weighed;
@@ -25,7 +27,7 @@ struct Sums {
 }
 
 /// A reach weight times a return, or none where its size passes 2^127 - 1.
-fn part(reached: u128, pay: i64) -> Option<i128>
+pub(crate) fn part(reached: u128, pay: i64) -> Option<i128>
     ensures some { IfSome result (λ x. (x ≡ pos reached *ℤ pay) × (nat_abs x ≤ most)) }
     ensures none { IfNone result (most < nat_abs (pos reached *ℤ pay)) }
 {
@@ -123,7 +125,8 @@ fn all_leaves(
     Some(sums)
 }
 
-/// The sums of a player, with the size of what was summed before.
+/// The sums of a player, with the size of what was summed before. What the player's response is made
+/// from is gathered on the way.
 fn player_sums(
     alloc: Global,
     weighed: &Weighed,
@@ -131,32 +134,40 @@ fn player_sums(
     reached: &[u128],
     player: u32,
     size: u128,
+    gathered: &mut Gathered,
 ) -> Result<Sums, JudgeFault>
     requires player { player < weighed.now.tree.players }
     requires size { size ≤ most }
+    requires before { size ≡ size_below weighed.now player }
     requires scale { scale ≡ scale_of weighed.now.tree.rows weighed.now.profile }
     requires small { scale ≤ most }
     requires reached { reached.now ≡ map (reach weighed.now.tree.rows weighed.now.profile None) weighed.now.tree.rows }
+    requires gathered { AreSlotSums weighed.now player gathered.old.starts gathered.old.sums.items gathered.old.parents.items }
     ensures ok { IfOk result (ArePlayerSums weighed.now player size) }
+    ensures gathered { OnOk result (AreSlotSums weighed.now (player + 1) gathered.new.starts gathered.new.sums.items gathered.new.parents.items) }
     ensures fault { IfErr result (OverflowsOnlyIf (most < size + size_for weighed.now player)) }
 {
     let counterfactual = all_reached(alloc, weighed, Some(player), scale)?;
-    match all_leaves(weighed, reached, counterfactual.items(), player, size) {
-        Some(sums) => Ok(sums),
-        None => Err(JudgeFault::Overflow),
-    }
+    let Some(sums) = all_leaves(weighed, reached, counterfactual.items(), player, size) else {
+        return Err(JudgeFault::Overflow);
+    };
+    gather(alloc, weighed, counterfactual.items(), player, gathered)?;
+    Ok(sums)
 }
 
-/// What each player gets on average.
+/// What each player gets on average. What responses are made from is gathered on the way.
 pub(crate) fn values(
     alloc: Global,
     weighed: &Weighed,
     scale: u128,
+    gathered: &mut Gathered,
 ) -> Result<List<i128>, JudgeFault>
     requires scale { scale ≡ scale_of weighed.now.tree.rows weighed.now.profile }
     requires small { scale ≤ most }
+    requires gathered { AreSlotSums weighed.now 0 gathered.old.starts gathered.old.sums.items gathered.old.parents.items }
     ensures values { IfOk result (λ values. values ≡ values_below weighed.now weighed.now.tree.players) }
     ensures sizes { IfOk result (λ values. size_below weighed.now weighed.now.tree.players ≤ most) }
+    ensures gathered { OnOk result (AreSlotSums weighed.now weighed.now.tree.players gathered.new.starts gathered.new.sums.items gathered.new.parents.items) }
     ensures fault { IfErr result (OverflowsOnlyIf (most < size_below weighed.now weighed.now.tree.players)) }
 {
     let tree = weighed.tree;
@@ -164,7 +175,15 @@ pub(crate) fn values(
     let mut values = List::new(alloc);
     let mut size = 0;
     for player in 0..tree.players() {
-        let sums = player_sums(alloc, weighed, scale, reached.items(), player, size)?;
+        let sums = player_sums(
+            alloc,
+            weighed,
+            scale,
+            reached.items(),
+            player,
+            size,
+            gathered,
+        )?;
         values.push(sums.value)?;
         size = sums.size;
     }

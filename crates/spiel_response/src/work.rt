@@ -1,14 +1,21 @@
-ghost use Rattle.std.specs.Prelude.{◌≡◌, ◌*◌, ◌<◌, ◌≤◌, map, pos, None, IfErr, IfNone, IfOk, IfSome, ◌*ℤ◌, ◌<ℤ◌, ◌≤ℤ◌, nat_abs};
+ghost use Rattle.std.specs.Prelude.{◌≡◌, ◌≢◌, ℕ, length, slice_index, Contains, ◌*◌, ◌<◌, ◌≤◌, map, pos, false, true, None, IfErr, IfNone, IfOk, IfSome, ◌-ℤ◌, ◌*ℤ◌, ◌<ℤ◌, ◌≤ℤ◌, nat_abs};
 ghost use Rattle.spiel_frac.specs.Fraction.{most};
 ghost use Rattle.spiel_frac.specs.Multiples.{IsLeastMultiple};
 ghost use Rattle.spiel_policy.specs.Profiles.{Fits};
+ghost use Rattle.spiel_tree.specs.States.{numbers_of, state_at, states_below};
+ghost use Rattle.spiel_response.specs.Answered.{is_made};
 ghost use Rattle.spiel_response.specs.Faults.{OverflowsOnlyIf};
 ghost use Rattle.spiel_response.specs.Reach.{leaves, scale_of, totals_to};
-ghost use Rattle.spiel_response.specs.Values.{NumbersFit, denominator_of, value_of};
+ghost use Rattle.spiel_response.specs.BestResponses.{IsBest, IsOnlyResponse, IsResponse, best_value, has_constant_sum, nash_conv_of, response};
+ghost use Rattle.spiel_response.specs.Values.{NumbersFit, denominator_of, size_for, value_of};
 
+use crate::constant_sums::has_constant_sum;
 use crate::fault::JudgeFault;
+use crate::gathering::nothing_gathered;
+use crate::responses::{Responses, no_responses};
 use crate::scale::{MOST, scale};
 use crate::sums::values;
+use crate::table::Table;
 use crate::weighed::Weighed;
 use spiel_frac::List;
 use spiel_policy::Policy;
@@ -20,21 +27,20 @@ use std::marker::Model;
 /// 127 bits, and no call takes memory.
 #[derive(Drop)]
 pub struct Work<'a> {
-    tree: &'a Tree,
-    policy: &'a Policy,
+    table: Table<'a>,
     total: i128,
     values: List<i128>,
+    responses: Responses,
 }
 
 impl<'a> Model for Work<'a> {
-    ghost use Rattle.spiel_response.specs.Values.{Judged};
-    ghost use Rattle.spiel_response.specs.Weighed.{IsWork};
+    ghost use Rattle.spiel_response.specs.Answered.{IsSolving, Solving};
 
-    ghost Value = { Judged };
+    ghost Value = { Solving };
 
-    ghost view = { λ w. record { tree = w.tree.now; profile = w.policy.now } };
+    ghost view = { λ w. record { judged = w.table; made = w.responses.made.items } };
 
-    ghost invariant = { λ w. IsWork (record { tree = w.tree.now; profile = w.policy.now }) w.total w.values };
+    ghost invariant = { λ w. IsSolving (record { judged = w.table; made = w.responses.made.items }) w.total w.values w.responses.earned.items w.responses.answers.items w.responses.sums.items };
 }
 
 /// The scale in parts of 1/unit, or none where twice that passes 2^127 - 1.
@@ -61,8 +67,9 @@ pub fn prepare<'a>(
     policy: &'a Policy,
 ) -> Result<Work<'a>, JudgeFault>
     requires { Fits tree.now policy.now }
-    ensures work { IfOk result (λ work. work ≡ record { tree = tree.now; profile = policy.now }) }
-    ensures fits { IfOk result (λ work. NumbersFit work) }
+    ensures judged { IfOk result (λ work. work.judged ≡ record { tree = tree.now; profile = policy.now }) }
+    ensures none_made { IfOk result (λ work. (p : ℕ) → is_made work p ≡ false) }
+    ensures fits { IfOk result (λ work. NumbersFit work.judged) }
     ensures fault { IfErr result (OverflowsOnlyIf (NumbersFit (record { tree = tree.now; profile = policy.now }) → ⊥)) }
 {
     let weighed = Weighed::new(alloc, tree, policy)?;
@@ -70,12 +77,23 @@ pub fn prepare<'a>(
     let Some(total) = denominator(scale, tree.unit()) else {
         return Err(JudgeFault::Overflow);
     };
-    let values = values(alloc, &weighed, scale)?;
+    let mut gathered = nothing_gathered(alloc, &weighed)?;
+    let values = values(alloc, &weighed, scale, &mut gathered)?;
+    let responses = no_responses(
+        alloc,
+        tree.players() as usize,
+        tree.states() as usize,
+        gathered.sums.len(),
+    )?;
     Ok(Work {
-        tree,
-        policy,
+        table: Table {
+            tree,
+            policy,
+            gathered,
+        },
         total,
         values,
+        responses,
     })
 }
 
@@ -83,10 +101,10 @@ impl<'a> Work<'a> {
     /// The denominator of all values, above 0: the least common multiple, over all leaves, of the
     /// products of the totals on their ways, in parts of 1/unit.
     pub fn total(&self) -> i128
-        ensures total { result ≡ denominator_of self.now }
+        ensures total { result ≡ denominator_of self.now.judged }
         ensures positive { pos 0 <ℤ result }
-        ensures least { IsLeastMultiple (map (totals_to self.now.tree.rows self.now.profile None) (leaves self.now.tree.rows)) (scale_of self.now.tree.rows self.now.profile) }
-        ensures fits { NumbersFit self.now }
+        ensures least { IsLeastMultiple (map (totals_to self.now.judged.tree.rows self.now.judged.profile None) (leaves self.now.judged.tree.rows)) (scale_of self.now.judged.tree.rows self.now.judged.profile) }
+        ensures fits { NumbersFit self.now.judged }
     {
         self.total
     }
@@ -94,9 +112,71 @@ impl<'a> Work<'a> {
 
 /// What a player gets on average if all play by the policy: this number over `Work::total`.
 pub fn value(work: &Work, player: u32) -> i128
-    requires { player < work.now.tree.players }
-    ensures value { result ≡ value_of work.now player }
+    requires { player < work.now.judged.tree.players }
+    ensures value { result ≡ value_of work.now.judged player }
     ensures small { nat_abs result ≤ most }
 {
     work.values.items()[player as usize]
+}
+
+/// Makes the best response of a player to what the policy has the others do, and answers what the
+/// player gets by it: this number over `Work::total`. No policy of the player gets more. At each
+/// information state the response takes the first of the numbers that are best given what it does
+/// later. The responses of other players stay.
+pub fn respond(work: &mut Work, player: u32) -> i128
+    requires { player < work.old.judged.tree.players }
+    ensures judged { work.new.judged ≡ work.old.judged }
+    ensures made { is_made work.new player ≡ true }
+    ensures others { (p : ℕ) → p ≢ player → is_made work.new p ≡ is_made work.old p }
+    ensures rule { IsResponse work.old.judged player (response work.old.judged player) }
+    ensures only { IsOnlyResponse work.old.judged player }
+    ensures best { IsBest work.old.judged player (response work.old.judged player) }
+    ensures earned { result ≡ best_value work.old.judged player }
+    ensures small { nat_abs result ≤ most }
+{
+    work.responses.make(&work.table, player)
+}
+
+/// The number that the response takes at an information state of a player whose response is made.
+pub fn answer_at(work: &Work, state: u32) -> u32
+    requires state { state < length (states_below work.now.judged.tree.players work.now.judged.tree.rows) }
+    requires made { is_made work.now (state_at work.now.judged.tree.players work.now.judged.tree.rows state).player ≡ true }
+    ensures answer { result ≡ slice_index (numbers_of work.now.judged.tree.players work.now.judged.tree.rows state) (response work.now.judged (state_at work.now.judged.tree.players work.now.judged.tree.rows state).player state) }
+    ensures legal { Contains (numbers_of work.now.judged.tree.players work.now.judged.tree.rows state) result }
+{
+    let tree = work.table.tree();
+    tree.action_at(state, work.responses.answers[state as usize])
+}
+
+/// What a player gains by the best response.
+fn gain(work: &Work, player: u32) -> i128
+    requires player { player < work.now.judged.tree.players }
+    requires made { is_made work.now player ≡ true }
+    ensures gain { result ≡ best_value work.now.judged player -ℤ value_of work.now.judged player }
+    ensures size { nat_abs result ≤ size_for work.now.judged player }
+{
+    work.responses.earned[player as usize] - value(work, player)
+}
+
+/// How far the policy is from an equilibrium: what the players gain in all, if each alone goes over to
+/// the best response. This number over `Work::total` is NashConv (Lanctot et al. 2017).
+pub fn nash_conv(work: &Work) -> i128
+    requires { (p : ℕ) → p < work.now.judged.tree.players → is_made work.now p ≡ true }
+    ensures gains { result ≡ nash_conv_of work.now.judged }
+    ensures none_below { pos 0 ≤ℤ result }
+    ensures small { nat_abs result ≤ most }
+{
+    let tree = work.table.tree();
+    let mut gains = 0;
+    for player in 0..tree.players() {
+        gains += gain(work, player);
+    }
+    gains
+}
+
+/// Whether there are two players, and their returns sum to one number over all leaves.
+pub fn constant_sum(work: &Work) -> bool
+    ensures { result ≡ has_constant_sum work.now.judged.tree }
+{
+    has_constant_sum(work.table.tree())
 }

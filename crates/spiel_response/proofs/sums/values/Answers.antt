@@ -10,7 +10,7 @@ use Rattle.spiel_response.proofs.LeafSums.{size_below-le, size_below_more, value
 use Rattle.spiel_response.proofs.sums.values.Goals as goal
 
 pub loop-player-init : goal.loop-player-init
-loop-player-init c = record { values_are = c.new-values.ensures; size_is = search rules; small = omega arith }
+loop-player-init c = record { values_are = c.new-values.ensures; size_is = search rules; small = omega arith; gathered = c.requires.gathered }
 
 pub returns-in_err-sums-clause-fault : goal.returns-in_err-sums-clause-fault
 returns-in_err-sums-clause-fault c =
@@ -32,6 +32,7 @@ loop-player-preserved c =
           (to_z-of_z w128 c.in_ok-sums.sums.value fits ∙ c.in_ok-sums.ensures.ok.value_is);
       size_is = size_below_more j p c.loop-player.size c.in_ok-sums.sums.size c.loop-player.invariant.size_is c.in_ok-sums.ensures.ok.size_is;
       small = c.in_ok-sums.ensures.ok.small;
+      gathered = c.in_ok-sums.ensures.gathered;
     }
 
 pub returns-clause-values : goal.returns-clause-values

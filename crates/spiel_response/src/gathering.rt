@@ -1,0 +1,84 @@
+ghost use Rattle.std.specs.Prelude.{◌≡◌, ◌+◌, ◌<◌, ◌≤◌, length, map, replicate, pos, Some, IfOk, OnOk};
+ghost use Rattle.spiel_frac.specs.Fraction.{most};
+ghost use Rattle.spiel_response.specs.Reach.{reach};
+ghost use Rattle.spiel_response.specs.Values.{size_below, size_for};
+ghost use Rattle.spiel_response.specs.SlotTable.{AreSlotSums};
+
+use crate::collecting::{add_leaves, note_parents};
+use crate::slots::{own_slots, slot_starts};
+use crate::weighed::Weighed;
+use spiel_frac::{List, NoMemory};
+use std::alloc::Global;
+
+/// What responses are made from, while it is gathered player by player.
+#[derive(Drop)]
+pub(crate) struct Gathered {
+    /// Where the slots of each information state begin, and last how many slots there are.
+    pub starts: List<usize>,
+    /// For each slot, the sum over the leaves to which it is that of the last own step.
+    pub sums: Vec<i128>,
+    /// For each information state, the slot of the last own step before it.
+    pub parents: Vec<usize>,
+}
+
+/// So many sums of nothing.
+pub(crate) fn no_sums(alloc: Global, count: usize) -> Result<Vec<i128>, NoMemory>
+    ensures { IfOk result (λ sums. sums.items ≡ replicate count (pos 0)) }
+{
+    match vec![in alloc; 0; count] {
+        Ok(sums) => Ok(sums),
+        Err(_) => Err(NoMemory),
+    }
+}
+
+/// So many slots that aren't known yet.
+fn no_slots(alloc: Global, count: usize) -> Result<Vec<usize>, NoMemory>
+    ensures { IfOk result (λ slots. slots.items ≡ replicate count 0) }
+{
+    match vec![in alloc; 0; count] {
+        Ok(slots) => Ok(slots),
+        Err(_) => Err(NoMemory),
+    }
+}
+
+/// Before any player.
+pub(crate) fn nothing_gathered(alloc: Global, weighed: &Weighed) -> Result<Gathered, NoMemory>
+    ensures { IfOk result (λ gathered. AreSlotSums weighed.now 0 gathered.starts gathered.sums.items gathered.parents.items) }
+{
+    let tree = weighed.tree;
+    let starts = slot_starts(alloc, weighed)?;
+    let states = tree.states() as usize;
+    let sums = no_sums(alloc, starts.items()[states])?;
+    let parents = no_slots(alloc, states)?;
+    Ok(Gathered {
+        starts,
+        sums,
+        parents,
+    })
+}
+
+/// With one player more, whose counterfactual reach weights are given.
+pub(crate) fn gather(
+    alloc: Global,
+    weighed: &Weighed,
+    counterfactual: &[u128],
+    player: u32,
+    gathered: &mut Gathered,
+) -> Result<(), NoMemory>
+    requires player { player < weighed.now.tree.players }
+    requires counterfactual { counterfactual.now ≡ map (reach weighed.now.tree.rows weighed.now.profile (Some player)) weighed.now.tree.rows }
+    requires small { size_below weighed.now player + size_for weighed.now player ≤ most }
+    requires before { AreSlotSums weighed.now player gathered.old.starts gathered.old.sums.items gathered.old.parents.items }
+    ensures { OnOk result (AreSlotSums weighed.now (player + 1) gathered.new.starts gathered.new.sums.items gathered.new.parents.items) }
+{
+    let slots = own_slots(alloc, weighed, gathered.starts.items(), player)?;
+    add_leaves(
+        weighed,
+        counterfactual,
+        slots.items(),
+        player,
+        &mut gathered.sums,
+    );
+    note_parents(weighed, slots.items(), player, &mut gathered.parents);
+    Ok(())
+}
