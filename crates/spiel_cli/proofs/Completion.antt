@@ -11,7 +11,7 @@ use Rattle.spiel_cli.specs.Refusal.{kind_of, status_of}
 use Rattle.spiel_cli.specs.Outcome.{done_status, outcome_of}
 use Rattle.spiel_cli.specs.Run.{Completes, IsUntouched, IsWritten, Knows, Says, TakesFront}
 use Rattle.spiel_cli.specs.declared.refusal.Refusal.{Refusal}
-use Rattle.spiel_cli.specs.declared.refusal.Refusal.TheVariants.{Usage, Read, Bad, Unjudged, Overflow, NoMemory}
+use Rattle.spiel_cli.specs.declared.refusal.Refusal.TheVariants.{Usage, Read, Bad, Unjudged, Unfit, Overflow, NoMemory}
 use Rattle.spiel_cli.specs.declared.done.Done.{Done}
 
 -- nothing more
@@ -47,6 +47,7 @@ memory_status Usage h = let no : ⊥ = cc in absurd no
 memory_status Read h = let no : ⊥ = cc in absurd no
 memory_status (Bad bad) h = let no : ⊥ = cc in absurd no
 memory_status (Unjudged game) h = let no : ⊥ = cc in absurd no
+memory_status (Unfit unfit) h = let no : ⊥ = cc in absurd no
 memory_status Overflow h = let no : ⊥ = cc in absurd no
 memory_status NoMemory h = refl
 

@@ -1,6 +1,5 @@
+pub mod Cases
 pub mod Completion
-pub mod Lines
-pub mod Numerals
-pub mod Shown
 pub mod Histories
-pub mod Valued
+pub mod Parts
+pub mod Trees

@@ -3,51 +3,53 @@ use Rattle.std.specs.Prelude.{ℕ, List, [], ◌∷◌, Option, Some, None, Resu
 use Rattle.spiel_io.specs.Outside.{Files}
 use Rattle.spiel_io.specs.Plan.{Plan, Refuse, decided}
 use Rattle.spiel_cli.specs.Refusal.{message_of, status_of}
-use Rattle.spiel_cli.specs.Words.{one_word, two_words, verb_of}
+use Rattle.spiel_cli.specs.Policies.{files_in}
+use Rattle.spiel_cli.specs.Policy.{policy_plan}
+use Rattle.spiel_cli.specs.Report.{judge_plan}
 use Rattle.spiel_cli.specs.Restore.{restore_plan}
+use Rattle.spiel_cli.specs.Save.{save_plan}
+use Rattle.spiel_cli.specs.Show.{show_plan}
 use Rattle.spiel_cli.specs.Value.{value_plan}
+use Rattle.spiel_words.specs.Verbs.{command_of}
+use Rattle.spiel_words.specs.declared.command.Command.{Command}
+use Rattle.spiel_words.specs.declared.command.Command.TheVariants.{Judge, Policy, Restore, Save, Show, Value}
 use Rattle.spiel_cli.specs.declared.done.Done.{Done}
 use Rattle.spiel_cli.specs.declared.refusal.Refusal.{Refusal}
 use Rattle.spiel_cli.specs.declared.refusal.Refusal.TheVariants.{Usage, Read}
-use Rattle.spiel_cli.specs.declared.words.Verb.{Verb}
-use Rattle.spiel_cli.specs.declared.words.Verb.TheVariants.{Restore, Value}
 
--- a plan for the word, where there is one
-abbrev pub with_word : Option (List ℕ) → (List ℕ → Plan Done Refusal) → Plan Done Refusal
-with_word None plan = Refuse Usage
-with_word (Some word) plan = plan word
+-- what a command decides
+abbrev pub command_plan : Command → Plan Done Refusal
+command_plan (Restore file) = restore_plan file
+command_plan (Save game list) = save_plan game list
+command_plan (Show game) = show_plan game
+command_plan (Value game policy) = value_plan game policy
+command_plan (Policy game policy) = policy_plan game policy
+command_plan (Judge game policy brief) = judge_plan game policy brief
 
--- a plan for two words, where there are two
-abbrev pub with_words : Option (List ℕ × List ℕ) → (List ℕ → List ℕ → Plan Done Refusal) → Plan Done Refusal
-with_words None plan = Refuse Usage
-with_words (Some pair) plan = plan pair.0 pair.1
-
--- what a verb decides by the words behind it
-abbrev pub verb_plan : Option Verb → List (List ℕ) → Plan Done Refusal
-verb_plan None words = Refuse Usage
-verb_plan (Some Restore) words = with_word (one_word words) restore_plan
-verb_plan (Some Value) words = with_words (two_words words) value_plan
+abbrev pub plan_by : Option Command → Plan Done Refusal
+plan_by None = Refuse Usage
+plan_by (Some command) = command_plan command
 
 -- what the words ask for, in which order, and what is decided by it
 abbrev pub plan_of : List (List ℕ) → Plan Done Refusal
-plan_of [] = Refuse Usage
-plan_of (verb ∷ words) = verb_plan (verb_of verb) words
+plan_of words = plan_by (command_of words)
 
--- one name, where there is a word
-abbrev pub names_of : Option (List ℕ) → ℕ
-names_of None = 0
-names_of (Some name) = 1
+-- how many names of files a command has
+abbrev pub command_names : Command → ℕ
+command_names (Restore file) = 1
+command_names (Save game list) = 0
+command_names (Show game) = 0
+command_names (Value game policy) = files_in policy
+command_names (Policy game policy) = files_in policy
+command_names (Judge game policy brief) = files_in policy
 
--- how many names of files stand behind a verb
-abbrev pub verb_names : Option Verb → List (List ℕ) → ℕ
-verb_names None words = 0
-verb_names (Some Restore) words = names_of (one_word words)
-verb_names (Some Value) words = 0
+abbrev pub names_by : Option Command → ℕ
+names_by None = 0
+names_by (Some command) = command_names command
 
 -- how many names the words have in the place of a file; none where the words are no command
 abbrev pub names_in : List (List ℕ) → ℕ
-names_in [] = 0
-names_in (verb ∷ words) = verb_names (verb_of verb) words
+names_in words = names_by (command_of words)
 
 -- the bytes for the output, the bytes for the messages, and the exit status
 pub record Outcome : Type 0 where

@@ -1,35 +1,52 @@
-ghost use Rattle.std.specs.Prelude.{map, string_bytes};
+ghost use Rattle.std.specs.Prelude.{None, Some, IfOk, map, string_bytes};
 ghost use Rattle.spiel_io.specs.Plan.{BeginsAtMost, Follows};
+ghost use Rattle.spiel_words.specs.Verbs.{command_of};
+ghost use Rattle.spiel_cli.specs.Outcome.{command_names, command_plan, names_in, plan_by, plan_of};
 ghost use Rattle.spiel_cli.specs.Refusal.{kind_of};
-ghost use Rattle.spiel_cli.specs.Outcome.{names_in, plan_of};
 
 use crate::done::Done;
+use crate::judge::judge;
+use crate::policy::policy;
 use crate::refusal::Refusal;
 use crate::restore::restore;
-use crate::value::policy_values;
-use crate::words::{Verb, operand, read_verb, two_operands};
+use crate::save::save;
+use crate::show::show;
+use crate::value::values;
 use spiel_io::Shelf;
+use spiel_words::{Command, read_words};
 use std::alloc::Global;
+
+/// Does what a command says, up to the writing.
+fn answer_command<F: Shelf>(
+    alloc: Global,
+    command: &Command,
+    shelf: &mut F,
+) -> Result<Done, Refusal>
+    ensures follows { Follows kind_of (command_plan command.now) (F.state shelf.old) (F.state shelf.new) result }
+    ensures begins { BeginsAtMost (command_names command.now) 1 (F.state shelf.old) (F.state shelf.new) }
+{
+    match command {
+        Command::Restore { file } => restore(alloc, shelf, file.bytes()),
+        Command::Save { game, list } => save(alloc, game.bytes(), list.bytes()),
+        Command::Show { game } => show(alloc, game.bytes()),
+        Command::Value { game, policy } => values(alloc, shelf, game.bytes(), policy.bytes()),
+        Command::Policy {
+            game,
+            policy: profile,
+        } => policy(alloc, shelf, game.bytes(), profile.bytes()),
+        Command::Judge {
+            game,
+            policy,
+            brief,
+        } => judge(alloc, shelf, game.bytes(), policy.bytes(), *brief),
+    }
+}
 
 /// Does what the words say, up to the writing.
 pub fn answer<F: Shelf>(alloc: Global, words: &[String], shelf: &mut F) -> Result<Done, Refusal>
     ensures follows { Follows kind_of (plan_of (map string_bytes words.now)) (F.state shelf.old) (F.state shelf.new) result }
     ensures begins { BeginsAtMost (names_in (map string_bytes words.now)) 1 (F.state shelf.old) (F.state shelf.new) }
 {
-    let [verb, words @ ..] = words else {
-        return Err(Refusal::Usage);
-    };
-    let Some(verb) = read_verb(verb.as_str()) else {
-        return Err(Refusal::Usage);
-    };
-    match verb {
-        Verb::Restore => match operand(words) {
-            Some(name) => restore(alloc, shelf, name.as_bytes()),
-            None => Err(Refusal::Usage),
-        },
-        Verb::Value => match two_operands(words) {
-            Some((game, policy)) => policy_values(alloc, game.as_bytes(), policy),
-            None => Err(Refusal::Usage),
-        },
-    }
+    let command = read_words(alloc, words)?;
+    answer_command(alloc, &command, shelf)
 }

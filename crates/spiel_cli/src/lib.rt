@@ -2,15 +2,20 @@
 #![tactic(auto)]
 
 mod answer;
-mod block;
+mod case;
 mod done;
-mod numbers;
+mod files;
+mod judge;
+mod lists;
+mod named;
+mod policies;
+mod policy;
 mod refusal;
 mod report;
 mod restore;
-mod saved;
+mod save;
+mod show;
 mod top;
 mod value;
-mod words;
 
 pub use top::run;

@@ -1,14 +1,19 @@
-ghost use Rattle.std.specs.Prelude.{◌≡◌, ◌∷◌, ◌++◌, cond, OnOk};
+ghost use Rattle.std.specs.Prelude.{◌≡◌, ◌∷◌, ◌++◌, codes, cond, OnOk};
 ghost use Rattle.std.specs.Fmt.{decimal};
-ghost use Rattle.spiel_cli.specs.Refusal.{bad_message, history_text, message_of, of_fetch, of_judge, of_tree, of_walk, pair_text, status_of, unjudged_message};
+ghost use Rattle.spiel_string.specs.Faults as of_strings;
+ghost use Rattle.spiel_save.specs.Faults as of_files;
+ghost use Rattle.spiel_cli.specs.Refusal.{bad_message, history_text, message_of, load_message, of_fetch, of_judge, of_load, of_saved, of_string, of_tree, of_walk, of_words, pair_text, status_of, unfit_message, unjudged_message};
 ghost use Rattle.spiel_cli.specs.declared.refusal.Refusal.TheVariants.{NoMemory as OutOfMemory};
 
-use crate::numbers::push_number;
 use spiel_api::WalkFault;
-use spiel_frac::{List, NoMemory, Text};
+use spiel_frac::{List, NoMemory, Text, write_number};
 use spiel_io::FetchFault;
+use spiel_load::LoadFault;
 use spiel_response::JudgeFault;
+use spiel_save::SavedFault;
+use spiel_string::StringFault;
 use spiel_tree::TreeFault;
+use spiel_words::WordsFault;
 use std::alloc::Global;
 
 /// Why a command is refused, or can't be done.
@@ -22,6 +27,8 @@ pub enum Refusal {
     Bad(BadInput),
     /// The game can't be judged.
     Unjudged(Unjudged),
+    /// The policy isn't one of the game.
+    Unfit(Unfit),
     /// The numbers are too large to be exact.
     Overflow,
     /// Memory ran out.
@@ -29,17 +36,28 @@ pub enum Refusal {
 }
 
 /// What is no good about a command's input.
-#[derive(Clone, Copy, Debug, PartialEq, Eq)]
+#[derive(Debug, Drop)]
 pub enum BadInput {
     /// The file has more bytes than a file may have.
     FileTooLong,
-    /// The form isn't one that is read so far: of the saved file, of the game's name, or of the
-    /// policy's name.
-    FormNotBuilt,
+    /// The word in the place of a history isn't the list of one.
+    BadList,
+    /// The game string is none.
+    GameString(StringFault),
+    /// The game string names no game.
+    Loading(LoadFault),
+    /// The saved file is none.
+    SavedFile(SavedFault),
     /// The number at this place of the history isn't legal there.
     Illegal { at: u32 },
     /// The history ends inside a joint step, after so many numbers.
     Unfinished { at: u32 },
+    /// The policy file is no JSON.
+    PolicyJson,
+    /// The policy file is no object of a policy.
+    PolicyHead,
+    /// This entry of the policy file isn't of the right shape.
+    PolicyShape { entry: u32 },
 }
 
 /// Why a game can't be judged: see `TreeFault`.
@@ -65,11 +83,37 @@ pub enum Unjudged {
     },
 }
 
+/// Why a policy file gives no policy of a game: see `PolicyFault`.
+#[derive(Debug, Drop)]
+pub enum Unfit {
+    /// This entry is for an information state that the game hasn't.
+    UnknownState { entry: u32 },
+    /// This entry is for the same information state as an earlier one.
+    Repeated { entry: u32 },
+    /// This entry names a number that isn't legal, or one number twice.
+    Action { entry: u32 },
+    /// The weights of this entry don't sum to 1.
+    Sum { entry: u32 },
+    /// No entry is for this information state of the player.
+    Missing { player: u32, text: Text },
+}
+
 impl From<NoMemory> for Refusal {
     ghost from_gives = { λ _ e. e ≡ OutOfMemory };
 
     fn from(_error: NoMemory) -> Refusal {
         Refusal::NoMemory
+    }
+}
+
+impl From<WordsFault> for Refusal {
+    ghost from_gives = { λ fault e. e ≡ of_words fault };
+
+    fn from(fault: WordsFault) -> Refusal {
+        match fault {
+            WordsFault::Usage => Refusal::Usage,
+            WordsFault::NoMemory => Refusal::NoMemory,
+        }
     }
 }
 
@@ -81,6 +125,45 @@ impl From<FetchFault> for Refusal {
             FetchFault::Read => Refusal::Read,
             FetchFault::TooLong => Refusal::Bad(BadInput::FileTooLong),
             FetchFault::NoMemory => Refusal::NoMemory,
+        }
+    }
+}
+
+impl From<StringFault> for Refusal {
+    ghost from_gives = { λ fault e. e ≡ of_string fault };
+
+    fn from(fault: StringFault) -> Refusal {
+        match fault {
+            StringFault::NoMemory => Refusal::NoMemory,
+            StringFault::TooLong
+            | StringFault::Syntax { .. }
+            | StringFault::TooDeep
+            | StringFault::Repeated { .. } => Refusal::Bad(BadInput::GameString(fault)),
+        }
+    }
+}
+
+impl From<LoadFault> for Refusal {
+    ghost from_gives = { λ fault e. e ≡ of_load fault };
+
+    fn from(fault: LoadFault) -> Refusal {
+        match fault {
+            LoadFault::NoMemory => Refusal::NoMemory,
+            named => Refusal::Bad(BadInput::Loading(named)),
+        }
+    }
+}
+
+impl From<SavedFault> for Refusal {
+    ghost from_gives = { λ fault e. e ≡ of_saved fault };
+
+    fn from(fault: SavedFault) -> Refusal {
+        match fault {
+            SavedFault::Game(of_game) => Refusal::from(of_game),
+            SavedFault::NoMemory => Refusal::NoMemory,
+            SavedFault::Header | SavedFault::Number { .. } => {
+                Refusal::Bad(BadInput::SavedFile(fault))
+            }
         }
     }
 }
@@ -148,7 +231,7 @@ pub fn status(refusal: &Refusal) -> u8
         Refusal::Usage => 2,
         Refusal::Read => 3,
         Refusal::Bad(_) => 4,
-        Refusal::Unjudged(_) => 5,
+        Refusal::Unjudged(_) | Refusal::Unfit(_) => 5,
         Refusal::Overflow => 6,
         Refusal::NoMemory => 8,
     }
@@ -159,18 +242,72 @@ fn push_place(alloc: Global, words: &[u8], at: u32, out: &mut Text) -> Result<()
     ensures { OnOk result (out.new ≡ out.old ++ (words.now ++ decimal at)) }
 {
     out.push(words)?;
-    push_number(alloc, at, out)
+    write_number(alloc, at, out)
+}
+
+/// Adds words, and the parameter of a game.
+fn push_parameter(words: &[u8], key: &Text, name: &Text, out: &mut Text) -> Result<(), NoMemory>
+    ensures { OnOk result (out.new ≡ out.old ++ (words.now ++ key.now ++ codes " of " ++ name.now)) }
+{
+    push_named(words, key, out)?;
+    push_named(b" of ", name, out)
+}
+
+/// Adds words and a name.
+fn push_named(words: &[u8], name: &Text, out: &mut Text) -> Result<(), NoMemory>
+    ensures { OnOk result (out.new ≡ out.old ++ (words.now ++ name.now)) }
+{
+    out.push(words)?;
+    out.push(name.bytes())
+}
+
+/// Adds what is wrong with the name of a game, in words.
+fn push_loading(fault: &LoadFault, out: &mut Text) -> Result<(), NoMemory>
+    ensures { OnOk result (out.new ≡ out.old ++ load_message fault.now) }
+{
+    match fault {
+        LoadFault::UnknownGame { name } => push_named(b"unknown game ", name, out),
+        LoadFault::UnknownParam { name, key } => {
+            push_parameter(b"unknown parameter ", key, name, out)
+        }
+        LoadFault::BadParam { name, key } => push_parameter(b"bad parameter ", key, name, out),
+        LoadFault::NoMemory => out.push(b"no memory"),
+    }
+}
+
+/// Adds what is said of a game string.
+fn push_string_fault(alloc: Global, fault: StringFault, out: &mut Text) -> Result<(), NoMemory>
+    ensures { OnOk result (out.new ≡ out.old ++ of_strings.fault_text fault) }
+{
+    let words = fault.to_string(alloc)?;
+    out.push(words.as_bytes())
+}
+
+/// Adds what is said of a saved file.
+fn push_saved_fault(alloc: Global, fault: SavedFault, out: &mut Text) -> Result<(), NoMemory>
+    ensures { OnOk result (out.new ≡ out.old ++ of_files.fault_text fault) }
+{
+    let words = fault.to_string(alloc)?;
+    out.push(words.as_bytes())
 }
 
 /// Adds what is no good, in words.
-fn push_bad(alloc: Global, bad: BadInput, out: &mut Text) -> Result<(), NoMemory>
-    ensures { OnOk result (out.new ≡ out.old ++ bad_message bad) }
+fn push_bad(alloc: Global, bad: &BadInput, out: &mut Text) -> Result<(), NoMemory>
+    ensures { OnOk result (out.new ≡ out.old ++ bad_message bad.now) }
 {
     match bad {
         BadInput::FileTooLong => out.push(b"file too long"),
-        BadInput::FormNotBuilt => out.push(b"form not built yet"),
-        BadInput::Illegal { at } => push_place(alloc, b"illegal action at ", at, out),
-        BadInput::Unfinished { at } => push_place(alloc, b"unfinished joint step at ", at, out),
+        BadInput::BadList => out.push(b"bad list"),
+        BadInput::GameString(fault) => push_string_fault(alloc, *fault, out),
+        BadInput::Loading(fault) => push_loading(fault, out),
+        BadInput::SavedFile(fault) => push_saved_fault(alloc, *fault, out),
+        BadInput::Illegal { at } => push_place(alloc, b"illegal action at ", *at, out),
+        BadInput::Unfinished { at } => push_place(alloc, b"unfinished joint step at ", *at, out),
+        BadInput::PolicyJson => out.push(b"policy: not JSON"),
+        BadInput::PolicyHead => out.push(b"policy: bad head"),
+        BadInput::PolicyShape { entry } => {
+            push_place(alloc, b"policy: bad shape in entry ", *entry, out)
+        }
     }
 }
 
@@ -192,7 +329,7 @@ fn push_listed(alloc: Global, first: bool, number: u32, out: &mut Text) -> Resul
     if !first {
         out.push(b",")?;
     }
-    push_number(alloc, number, out)
+    write_number(alloc, number, out)
 }
 
 /// Adds words, a player and two histories.
@@ -208,7 +345,7 @@ fn push_pair(
 {
     out.push(words)?;
     out.push(b" player ")?;
-    push_number(alloc, player, out)?;
+    write_number(alloc, player, out)?;
     out.push(b": ")?;
     push_history(alloc, first, out)?;
     out.push(b" and ")?;
@@ -252,6 +389,31 @@ fn push_unjudged(alloc: Global, game: &Unjudged, out: &mut Text) -> Result<(), N
     }
 }
 
+/// Adds what is said of an information state without an entry.
+fn push_missing(alloc: Global, player: u32, text: &Text, out: &mut Text) -> Result<(), NoMemory>
+    ensures { OnOk result (out.new ≡ out.old ++ (codes "policy: no entry for player " ++ decimal player ++ codes " state " ++ text.now)) }
+{
+    push_place(alloc, b"policy: no entry for player ", player, out)?;
+    push_named(b" state ", text, out)
+}
+
+/// Adds why a policy file gives no policy of a game, in words.
+fn push_unfit(alloc: Global, unfit: &Unfit, out: &mut Text) -> Result<(), NoMemory>
+    ensures { OnOk result (out.new ≡ out.old ++ unfit_message unfit.now) }
+{
+    match unfit {
+        Unfit::UnknownState { entry } => {
+            push_place(alloc, b"policy: unknown state in entry ", *entry, out)
+        }
+        Unfit::Repeated { entry } => {
+            push_place(alloc, b"policy: repeated state in entry ", *entry, out)
+        }
+        Unfit::Action { entry } => push_place(alloc, b"policy: action in entry ", *entry, out),
+        Unfit::Sum { entry } => push_place(alloc, b"policy: sum in entry ", *entry, out),
+        Unfit::Missing { player, text } => push_missing(alloc, *player, text, out),
+    }
+}
+
 /// Adds the line that is said about a refusal.
 pub fn push_message(alloc: Global, refusal: &Refusal, out: &mut Text) -> Result<(), NoMemory>
     ensures { OnOk result (out.new ≡ out.old ++ message_of refusal.now) }
@@ -261,12 +423,17 @@ pub fn push_message(alloc: Global, refusal: &Refusal, out: &mut Text) -> Result<
         Refusal::Read => out.push(b"spiel: read fault\n"),
         Refusal::Bad(bad) => {
             out.push(b"spiel: ")?;
-            push_bad(alloc, *bad, out)?;
+            push_bad(alloc, bad, out)?;
             out.push(b"\n")
         }
         Refusal::Unjudged(game) => {
             out.push(b"spiel: ")?;
             push_unjudged(alloc, game, out)?;
+            out.push(b"\n")
+        }
+        Refusal::Unfit(unfit) => {
+            out.push(b"spiel: ")?;
+            push_unfit(alloc, unfit, out)?;
             out.push(b"\n")
         }
         Refusal::Overflow => out.push(b"spiel: numbers pass 127 bits\n"),

@@ -1,58 +1,61 @@
 ghost use Rattle.std.specs.Prelude.{◌≤◌, length, IfOk, None};
 ghost use Rattle.spiel_io.specs.Plan.{Agrees, BeginsAtMost, Follows};
-ghost use Rattle.spiel_cli.specs.Refusal.{kind_of};
-ghost use Rattle.spiel_cli.specs.Restore.{file_limit, lift, named_file, restore_plan, restored, shown};
+ghost use Rattle.spiel_save.specs.Answer.{reading_saved};
+ghost use Rattle.spiel_string.specs.View.{view};
+ghost use Rattle.spiel_string.specs.WellFormed.{IsWellFormed};
+ghost use Rattle.spiel_cli.specs.Deciding.{decide, file_limit, seeing};
+ghost use Rattle.spiel_cli.specs.Refusal.{kind_of, of_saved};
+ghost use Rattle.spiel_cli.specs.Restore.{played_of, restore_plan, restored, shown};
 
-use crate::block::block;
 use crate::done::Done;
-use crate::refusal::{BadInput, Refusal};
-use crate::saved::read_saved;
+use crate::files::read_named;
+use crate::named::load_named;
+use crate::refusal::Refusal;
 use spiel_api::{Game, walk};
 use spiel_frac::Text;
-use spiel_io::{Shelf, Slot, fetch};
-use spiel_poker::Kuhn;
+use spiel_io::Shelf;
+use spiel_play::{block, title};
+use spiel_save::{Saved, read_saved};
+use spiel_string::GameText;
 use std::alloc::Global;
 
-/// How many bytes a file may have.
-const FILE_LIMIT: usize = 67_108_864;
-
-/// All bytes of a file that the words name.
-fn read_named<F: Shelf>(alloc: Global, shelf: &mut F, name: &[u8]) -> Result<Text, Refusal>
-    ensures follows { Follows kind_of (named_file name.now) (F.state shelf.old) (F.state shelf.new) result }
-    ensures begins { BeginsAtMost 1 0 (F.state shelf.old) (F.state shelf.new) }
+/// The game and the history of a saved file.
+fn read_play(alloc: Global, bytes: &[u8]) -> Result<Saved, Refusal>
+    requires { length bytes.now ≤ file_limit }
+    ensures agrees { Agrees kind_of (decide of_saved (reading_saved bytes.now)) None (seeing played_of result) }
+    ensures well_formed { IfOk result (λ saved. IsWellFormed (view saved.game)) }
 {
-    match fetch(alloc, shelf, Slot::Main, name, FILE_LIMIT) {
-        Ok(text) => Ok(text),
-        Err(fault) => Err(Refusal::from(fault)),
-    }
+    Ok(read_saved(alloc, bytes)?)
 }
 
 /// The name of a game, and the lines of its state for a history.
-fn show<G: Game>(alloc: Global, game: &G, title: &[u8], history: &[u32]) -> Result<Done, Refusal>
+fn show_state<G: Game>(
+    alloc: Global,
+    game: &G,
+    text: &GameText,
+    history: &[u32],
+) -> Result<Done, Refusal>
     requires { G.is_game game.now }
-    ensures { Agrees kind_of (lift (shown (G.rules game.now) title.now history.now)) None result }
+    ensures { Agrees kind_of (shown history.now (record { text = view text.now; rules = G.rules game.now })) None result }
 {
     let state = walk(alloc, game, history)?;
     let mut out = Text::new(alloc);
-    out.push(title)?;
-    out.push(b"\n")?;
+    title(alloc, text, &mut out)?;
     block(alloc, game, &state, &mut out)?;
     Ok(Done { out, same: true })
 }
 
 /// What the bytes of a saved file show.
-#[tactic(auto, unfolding(crate::specs::Restore::restored))]
 fn restore_bytes(alloc: Global, bytes: &[u8]) -> Result<Done, Refusal>
-    ensures { Agrees kind_of (lift (restored bytes.now)) None result }
+    requires { length bytes.now ≤ file_limit }
+    ensures { Agrees kind_of (restored bytes.now) None result }
 {
-    let Some(history) = read_saved(alloc, bytes)? else {
-        return Err(Refusal::Bad(BadInput::FormNotBuilt));
-    };
-    let game = Kuhn::new(2).unwrap();
-    show(alloc, &game, b"game kuhn_poker()", history.items())
+    let saved = read_play(alloc, bytes)?;
+    let game = load_named(alloc, &saved.game)?;
+    show_state(alloc, &game, &saved.game, saved.history.items())
 }
 
-/// `restore FILE`: the state of a saved game.
+/// `restore FILE`: the state of a saved play.
 pub fn restore<F: Shelf>(alloc: Global, shelf: &mut F, name: &[u8]) -> Result<Done, Refusal>
     ensures follows { Follows kind_of (restore_plan name.now) (F.state shelf.old) (F.state shelf.new) result }
     ensures begins { BeginsAtMost 1 0 (F.state shelf.old) (F.state shelf.new) }

@@ -1,112 +1,150 @@
-//! The two policies that each tree has, weight by weight.
-ghost use Rattle.std.specs.Prelude.{IfSome};
-ghost use Rattle.spiel_policy.specs.Profiles.{Fits};
-
-use super::turns::{Turn, Turns};
-use spiel_api::{Game, Place};
-use spiel_poker::Kuhn;
-use spiel_policy::{Policy, first_action, uniform};
-use spiel_tree::{Tree, build};
+//! What is judged: values, reports, policies by name and from files.
+use super::{USAGE, comes_of, text};
+use spiel_frac::NoMemory;
 use std::alloc::Global;
+use std::test::Fail;
 
-/// A policy that each tree has.
-#[derive(Clone, Copy, Debug, PartialEq, Eq)]
-pub(super) enum Choice {
-    /// Whoever moves takes each number with the same probability.
-    Uniform,
-    /// Whoever moves takes the first number.
-    First,
-}
+/// Words, the file `a`, and the status with what is written and said.
+type Row = (
+    &'static str,
+    &'static [u8],
+    u8,
+    &'static [u8],
+    &'static [u8],
+);
 
-/// The policy for a tree, where there is memory.
-pub(super) fn policy_for(alloc: Global, tree: &Tree, choice: Choice) -> Option<Policy>
-    ensures { IfSome result (λ policy. Fits tree.now policy) }
-{
-    match choice {
-        Choice::Uniform => uniform(alloc, tree).ok(),
-        Choice::First => first_action(alloc, tree).ok(),
-    }
-}
+/// A policy of Kuhn poker from which nobody gains by going over to another alone.
+const EQUILIBRIUM: &[u8] =
+    b"{\"policy\":1,\"states\":[{\"player\":0,\"state\":\"0\",\"actions\":[[0,\"1\"]]},{\"player\":0,\"state\":\"0pb\",\"actions\":[[0,\"1\"]]},{\"player\":0,\"state\":\"1\",\"actions\":[[0,\"1\"],[1,\"0\"]]},{\"player\":0,\"state\":\"1pb\",\"actions\":[[0,\"2/3\"],[1,\"1/3\"]]},{\"player\":0,\"state\":\"2\",\"actions\":[[0,1]]},{\"player\":0,\"state\":\"2pb\",\"actions\":[[1,1]]},{\"player\":1,\"state\":\"1p\",\"actions\":[[0,\"1\"]]},{\"player\":1,\"state\":\"1b\",\"actions\":[[0,\"2/3\"],[1,\"1/3\"]]},{\"player\":1,\"state\":\"2p\",\"actions\":[[1,\"1\"]]},{\"player\":1,\"state\":\"2b\",\"actions\":[[1,\"1\"]]},{\"player\":1,\"state\":\"0p\",\"actions\":[[0,\"2/3\"],[1,\"1/3\"]]},{\"player\":1,\"state\":\"0b\",\"actions\":[[0,\"1\"]]}]}\n";
 
-/// The weights at an information state, and their total.
-type State = (&'static [u128], u128);
+/// The report on the uniform policy.
+const UNIFORM: &[u8] =
+    b"game kuhn_poker()\nhistories 58\nstates 12\nvalue 0 1/8\nvalue 1 -1/8\nbest 0 1/2\nbest 1 5/12\nnash_conv 11/12\nexploitability 11/24\nanswer 0 1 0\nanswer 0 0 0pb\nanswer 0 1 1\nanswer 0 1 1pb\nanswer 0 0 2\nanswer 0 1 2pb\nanswer 1 1 1p\nanswer 1 1 1b\nanswer 1 1 2p\nanswer 1 1 2b\nanswer 1 1 0p\nanswer 1 0 0b\n";
 
-/// The weight of a number, where there is one with this index.
-fn weight_at(tree: &Tree, policy: &Policy, state: u32, index: u32) -> Option<u128>
-    requires { Fits tree.now policy.now }
-{
-    if state < tree.states() && index < tree.action_count(state) {
-        Some(policy.weight(state, index))
-    } else {
-        None
-    }
-}
+/// The report on the equilibrium.
+const BEST: &[u8] =
+    b"game kuhn_poker()\nhistories 58\nstates 12\nvalue 0 -1/18\nvalue 1 1/18\nbest 0 -1/18\nbest 1 1/18\nnash_conv 0\nexploitability 0\nanswer 0 0 0\nanswer 0 0 0pb\nanswer 0 0 1\nanswer 0 0 1pb\nanswer 0 0 2\nanswer 0 1 2pb\nanswer 1 0 1p\nanswer 1 0 1b\nanswer 1 1 2p\nanswer 1 0 2b\nanswer 1 0 0p\nanswer 1 0 0b\n";
 
-/// Whether an information state has these weights, no more, and this total.
-fn is_state(tree: &Tree, policy: &Policy, state: u32, want: &State) -> bool
-    requires { Fits tree.now policy.now }
-{
-    let (weights, total) = *want;
-    if state >= tree.states()
-        || policy.total(state) != total
-        || tree.action_count(state) as usize != weights.len()
-    {
-        return false;
-    }
-    for index in 0..tree.action_count(state) {
-        if weight_at(tree, policy, state, index) != weights.get(index as usize).copied() {
-            return false;
-        }
-    }
-    true
-}
+/// The brief report on the policy of first numbers.
+const FIRST: &[u8] =
+    b"game kuhn_poker()\nhistories 58\nstates 12\nvalue 0 0\nvalue 1 0\nbest 0 1\nbest 1 1\nnash_conv 2\nexploitability 1\n";
 
-/// Whether a game has these information states, no more, and the policy these weights.
-fn has_states<G: Game>(alloc: Global, game: &G, choice: Choice, want: &[State]) -> bool
-    requires { G.is_game game.now }
-{
-    let Ok(tree) = build(alloc, game, 1000) else {
-        return false;
-    };
-    let Some(policy) = policy_for(alloc, &tree, choice) else {
-        return false;
-    };
-    if tree.states() as usize != want.len() {
-        return false;
-    }
-    for state in 0..tree.states() {
-        if !is_state(&tree, &policy, state, &want[state as usize]) {
-            return false;
-        }
-    }
-    true
-}
+/// The file of the policy of first numbers.
+const FIRST_FILE: &[u8] =
+    b"{\"policy\":1,\"states\":[{\"actions\":[[0,\"1\"],[1,\"0\"]],\"player\":0,\"state\":\"0\"},{\"actions\":[[0,\"1\"],[1,\"0\"]],\"player\":0,\"state\":\"0pb\"},{\"actions\":[[0,\"1\"],[1,\"0\"]],\"player\":0,\"state\":\"1\"},{\"actions\":[[0,\"1\"],[1,\"0\"]],\"player\":0,\"state\":\"1pb\"},{\"actions\":[[0,\"1\"],[1,\"0\"]],\"player\":0,\"state\":\"2\"},{\"actions\":[[0,\"1\"],[1,\"0\"]],\"player\":0,\"state\":\"2pb\"},{\"actions\":[[0,\"1\"],[1,\"0\"]],\"player\":1,\"state\":\"1p\"},{\"actions\":[[0,\"1\"],[1,\"0\"]],\"player\":1,\"state\":\"1b\"},{\"actions\":[[0,\"1\"],[1,\"0\"]],\"player\":1,\"state\":\"2p\"},{\"actions\":[[0,\"1\"],[1,\"0\"]],\"player\":1,\"state\":\"2b\"},{\"actions\":[[0,\"1\"],[1,\"0\"]],\"player\":1,\"state\":\"0p\"},{\"actions\":[[0,\"1\"],[1,\"0\"]],\"player\":1,\"state\":\"0b\"}]}\n";
 
-/// Chance draws, and each of three players moves once, of whom player 0 has one number alone.
-const THREE: &[Turn] = &[
-    (Place::Chance, &[1, 2]),
-    (Place::Move(2), &[1, 1, 1]),
-    (Place::Move(0), &[1]),
-    (Place::Move(1), &[1, 1]),
+const ROWS: [Row; 22] = [
+    ("judge kuhn_poker uniform", b"", 0, UNIFORM, b""),
+    ("judge kuhn_poker a", EQUILIBRIUM, 0, BEST, b""),
+    ("judge --brief kuhn_poker first", b"", 0, FIRST, b""),
+    ("judge kuhn_poker --brief first", b"", 0, FIRST, b""),
+    ("judge kuhn_poker first --brief --brief", b"", 2, b"", USAGE),
+    ("judge kuhn_poker", b"", 2, b"", USAGE),
+    (
+        "value kuhn_poker uniform",
+        b"",
+        0,
+        b"game kuhn_poker()\nvalue 0 1/8\nvalue 1 -1/8\n",
+        b"",
+    ),
+    (
+        "value kuhn_poker() first",
+        b"",
+        0,
+        b"game kuhn_poker()\nvalue 0 0\nvalue 1 0\n",
+        b"",
+    ),
+    (
+        "value kuhn_poker a",
+        EQUILIBRIUM,
+        0,
+        b"game kuhn_poker()\nvalue 0 -1/18\nvalue 1 1/18\n",
+        b"",
+    ),
+    ("value kuhn_poker b", b"", 3, b"", b"spiel: read fault\n"),
+    (
+        "value checkers b",
+        b"",
+        4,
+        b"",
+        b"spiel: unknown game checkers\n",
+    ),
+    (
+        "value tic_tac_toe(a=1) b",
+        b"",
+        4,
+        b"",
+        b"spiel: unknown parameter a of tic_tac_toe\n",
+    ),
+    ("value kuhn_poker -x", b"", 2, b"", USAGE),
+    ("policy kuhn_poker first", b"", 0, FIRST_FILE, b""),
+    (
+        "value kuhn_poker a",
+        b"{\"policy\":1,\"states\":[{\"player\":0,\"state\":\"0\",\"actions\":[[0,\"1\"]]},{\"player\":0,\"state\":\"0pb\",\"actions\":[[0,\"1\"]]},{\"player\":0,\"state\":\"1\",\"actions\":[[0,\"1\"],[1,\"0\"]]},{\"player\":0,\"state\":\"1pb\",\"actions\":[[0,\"2/3\"],[1,\"1/3\"]]},{\"player\":0,\"state\":\"2\",\"actions\":[[0,1]]},{\"player\":0,\"state\":\"2pb\",\"actions\":[[1,1]]},{\"player\":1,\"state\":\"1p\",\"actions\":[[0,\"1\"]]},{\"player\":1,\"state\":\"1b\",\"actions\":[[0,\"2/3\"],[1,\"1/3\"]]},{\"player\":1,\"state\":\"2p\",\"actions\":[[1,\"1\"]]},{\"player\":1,\"state\":\"2b\",\"actions\":[[1,\"1\"]]},{\"player\":1,\"state\":\"0p\",\"actions\":[[0,\"2/3\"],[1,\"1/3\"]]}]}",
+        5,
+        b"",
+        b"spiel: policy: no entry for player 1 state 0b\n",
+    ),
+    (
+        "value kuhn_poker a",
+        b"{\"policy\":1,\"states\":[{\"player\":0,\"state\":\"0\",\"actions\":[[0,\"1\"]]},{\"player\":0,\"state\":\"0pb\",\"actions\":[[0,\"1\"]]},{\"player\":0,\"state\":\"1\",\"actions\":[[0,\"1\"],[1,\"0\"]]},{\"player\":0,\"state\":\"1pb\",\"actions\":[[0,\"2/3\"],[1,\"1/3\"]]},{\"player\":0,\"state\":\"2\",\"actions\":[[0,1]]},{\"player\":0,\"state\":\"2pb\",\"actions\":[[1,1]]},{\"player\":1,\"state\":\"1p\",\"actions\":[[0,\"1\"]]},{\"player\":1,\"state\":\"1b\",\"actions\":[[0,\"2/3\"],[1,\"1/3\"]]},{\"player\":1,\"state\":\"2p\",\"actions\":[[1,\"1\"]]},{\"player\":1,\"state\":\"2b\",\"actions\":[[1,\"1\"]]},{\"player\":1,\"state\":\"0p\",\"actions\":[[0,\"2/3\"],[1,\"1/3\"]]},{\"player\":1,\"state\":\"0b\",\"actions\":[[0,\"1\"]]},{\"player\":0,\"state\":\"0\",\"actions\":[[0,\"1\"]]}]}",
+        5,
+        b"",
+        b"spiel: policy: repeated state in entry 12\n",
+    ),
+    (
+        "judge kuhn_poker a",
+        b"{\"policy\":1,\"states\":[{\"player\":0,\"state\":\"0\",\"actions\":[[0,\"1\"]]},{\"player\":0,\"state\":\"0pb\",\"actions\":[[0,\"1\"]]},{\"player\":0,\"state\":\"1\",\"actions\":[[0,\"1/3\"],[1,\"0.66\"]]}]}",
+        5,
+        b"",
+        b"spiel: policy: sum in entry 2\n",
+    ),
+    (
+        "policy kuhn_poker a",
+        b"{\"policy\":1,\"states\":[{\"player\":0,\"state\":\"0\",\"actions\":[[2,\"1\"]]}]}",
+        5,
+        b"",
+        b"spiel: policy: action in entry 0\n",
+    ),
+    (
+        "policy kuhn_poker a",
+        b"{\"policy\":1,\"states\":[{\"player\":0,\"state\":\"3\",\"actions\":[]}]}",
+        5,
+        b"",
+        b"spiel: policy: unknown state in entry 0\n",
+    ),
+    (
+        "policy kuhn_poker a",
+        b"{\"policy\":1,\"states\":[{\"player\":0,\"state\":\"0\",\"actions\":[[0,1.0]]}]}",
+        4,
+        b"",
+        b"spiel: policy: bad shape in entry 0\n",
+    ),
+    (
+        "policy kuhn_poker a",
+        b"{\"policy\":1,\"states\":[",
+        4,
+        b"",
+        b"spiel: policy: not JSON\n",
+    ),
+    (
+        "policy kuhn_poker a",
+        b"{\"policy\":2,\"states\":[]}",
+        4,
+        b"",
+        b"spiel: policy: bad head\n",
+    ),
 ];
 
-const THREE_UNIFORM: [State; 3] = [(&[1], 1), (&[1, 1], 2), (&[1, 1, 1], 3)];
-
-const THREE_FIRST: [State; 3] = [(&[1], 1), (&[1, 0], 1), (&[1, 0, 0], 1)];
-
-const KUHN_UNIFORM: [State; 12] = [(&[1, 1], 2); 12];
-
-const KUHN_FIRST: [State; 12] = [(&[1, 0], 1); 12];
+fn is_row(alloc: Global, row: &Row) -> Result<bool, NoMemory> {
+    let (line, file, status, wrote, said) = *row;
+    comes_of(alloc, line, text(alloc, file, b"")?, status, wrote, said)
+}
 
 #[test]
-fn each_tree_has_two_policies(rt: HostRuntime) {
-    let kuhn = Kuhn::new(2).unwrap();
-    assert!(rt; has_states(rt.alloc(), &kuhn, Choice::Uniform, &KUHN_UNIFORM));
-    assert!(rt; has_states(rt.alloc(), &kuhn, Choice::First, &KUHN_FIRST));
-    let three = Turns::new(3, 1, THREE, 0, &[]).expect(&rt, "three players");
-    assert!(rt; has_states(rt.alloc(), &three, Choice::Uniform, &THREE_UNIFORM));
-    assert!(rt; has_states(rt.alloc(), &three, Choice::First, &THREE_FIRST));
-    let over = Turns::new(1, 1, &[], 0, &[]).expect(&rt, "one player");
-    assert!(rt; has_states(rt.alloc(), &over, Choice::Uniform, &[]));
-    assert!(rt; has_states(rt.alloc(), &over, Choice::First, &[]));
+fn policies_are_judged(rt: HostRuntime) -> Result<(), Fail> {
+    for (i, row) in ROWS.iter().enumerate() {
+        assert!(rt; is_row(rt.alloc(), row)?, "row {i}");
+    }
+    Ok(())
 }

@@ -1,5 +1,0 @@
-use Rattle.spiel_cli.proofs.Shown.{lines_added}
-use Rattle.spiel_cli.proofs.block.push_infos.Goals as goal
-
-pub loop-player-preserved : goal.loop-player-preserved
-loop-player-preserved g c = lines_added _ c.loop-player.player _ _ _ c.loop-player.invariant c.in_ok-push_info.ensures

@@ -1,5 +1,0 @@
-use Rattle.spiel_cli.proofs.Shown.{lines_added}
-use Rattle.spiel_cli.proofs.block.push_outcomes.Goals as goal
-
-pub loop-index-preserved : goal.loop-index-preserved
-loop-index-preserved g c = lines_added _ c.loop-index.index _ _ _ c.loop-index.invariant c.in_ok-push_outcome.ensures

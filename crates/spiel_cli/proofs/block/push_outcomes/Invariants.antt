@@ -1,6 +1,0 @@
-use Rattle.std.proofs.Common.{◌≡◌, ◌++◌, map}
-use Rattle.spiel_cli.specs.Block.{below, lines_text, outcome_line}
-use Rattle.spiel_cli.proofs.block.push_outcomes.Given as goal
-
-abbrev pub invariant-loop-index : goal.invariant-loop-index
-invariant-loop-index g l = l.out ≡ l.fn.out ++ lines_text (map (outcome_line (g.G.Game.rules l.game) (g.G.Game.history_of l.game l.state)) (below l.index))

@@ -1,0 +1,7 @@
+use Rattle.spiel_cli.specs.Report.{reported}
+use Rattle.spiel_cli.proofs.Cases.{case_then, reports_ask_nothing}
+use Rattle.spiel_cli.proofs.judge.judge.Goals as goal
+
+pub returns-clause-follows : goal.returns-clause-follows
+returns-clause-follows g c =
+    case_then c.args.game.now c.args.policy.now (reported c.args.brief) (reports_ask_nothing c.args.brief) _ _ c.in_ok-case.case c.tree_report.result c.in_ok-case.ensures.follows c.tree_report.ensures

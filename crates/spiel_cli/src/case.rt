@@ -1,0 +1,64 @@
+//! Games with policies that are judged.
+ghost use Rattle.std.specs.Prelude.{IfOk};
+ghost use Rattle.spiel_io.specs.Plan.{BeginsAtMost, Follows};
+ghost use Rattle.spiel_policy.specs.Profiles.{Fits};
+ghost use Rattle.spiel_string.specs.View.{view};
+ghost use Rattle.spiel_cli.specs.Case.{case_of, case_plan, game_case};
+ghost use Rattle.spiel_cli.specs.Deciding.{seeing};
+ghost use Rattle.spiel_cli.specs.Policies.{files_in};
+ghost use Rattle.spiel_cli.specs.Refusal.{kind_of};
+
+use crate::named::{load_named, read_word};
+use crate::policies::choose_policy;
+use crate::refusal::Refusal;
+use spiel_api::Game;
+use spiel_io::Shelf;
+use spiel_policy::Policy;
+use spiel_string::GameText;
+use spiel_tree::{Tree, build};
+use std::alloc::Global;
+
+/// How many histories a game may have that is judged.
+const HISTORY_LIMIT: u32 = 1_048_576;
+
+/// A game and a policy for it: the game string, the tree of the game, and the policy.
+#[derive(Drop)]
+pub struct Case {
+    pub text: GameText,
+    pub tree: Tree,
+    pub policy: Policy,
+}
+
+/// The tree of a game, and the policy that a word says.
+fn game_policy<F: Shelf, G: Game>(
+    alloc: Global,
+    shelf: &mut F,
+    game: &G,
+    text: GameText,
+    policy: &[u8],
+) -> Result<Case, Refusal>
+    requires { G.is_game game.now }
+    ensures follows { Follows kind_of (game_case policy.now (record { text = view text; rules = G.rules game.now })) (F.state shelf.old) (F.state shelf.new) (seeing case_of result) }
+    ensures fits { IfOk result (λ case. Fits case.tree case.policy) }
+    ensures begins { BeginsAtMost (files_in policy.now) 0 (F.state shelf.old) (F.state shelf.new) }
+{
+    let tree = build(alloc, game, HISTORY_LIMIT)?;
+    let policy = choose_policy(alloc, shelf, &tree, policy)?;
+    Ok(Case { text, tree, policy })
+}
+
+/// `GAME POLICY`: the game that a word names, and the policy that another says.
+pub fn read_case<F: Shelf>(
+    alloc: Global,
+    shelf: &mut F,
+    game: &[u8],
+    policy: &[u8],
+) -> Result<Case, Refusal>
+    ensures follows { Follows kind_of (case_plan game.now policy.now) (F.state shelf.old) (F.state shelf.new) (seeing case_of result) }
+    ensures fits { IfOk result (λ case. Fits case.tree case.policy) }
+    ensures begins { BeginsAtMost (files_in policy.now) 0 (F.state shelf.old) (F.state shelf.new) }
+{
+    let text = read_word(alloc, game)?;
+    let game = load_named(alloc, &text)?;
+    game_policy(alloc, shelf, &game, text, policy)
+}

@@ -1,0 +1,32 @@
+//! Games that words name.
+ghost use Rattle.std.specs.Prelude.{IfOk, None};
+ghost use Rattle.spiel_io.specs.Plan.{Agrees};
+ghost use Rattle.spiel_string.specs.Answer.{reading};
+ghost use Rattle.spiel_string.specs.View.{view};
+ghost use Rattle.spiel_string.specs.WellFormed.{IsWellFormed};
+ghost use Rattle.spiel_load.specs.Base.{IsBaseGame, base_rules};
+ghost use Rattle.spiel_load.specs.Named.{named_game};
+ghost use Rattle.spiel_cli.specs.Deciding.{decide, seeing};
+ghost use Rattle.spiel_cli.specs.Refusal.{kind_of, of_load, of_string};
+
+use crate::refusal::Refusal;
+use spiel_load::{Any, load};
+use spiel_string::{GameText, read_game};
+use std::alloc::Global;
+
+/// The game string that a word is.
+pub fn read_word(alloc: Global, word: &[u8]) -> Result<GameText, Refusal>
+    ensures agrees { Agrees kind_of (decide of_string (reading word.now)) None (seeing view result) }
+    ensures well_formed { IfOk result (λ text. IsWellFormed (view text)) }
+{
+    Ok(read_game(alloc, word)?)
+}
+
+/// The game that a game string names.
+pub fn load_named(alloc: Global, text: &GameText) -> Result<Any, Refusal>
+    requires { IsWellFormed (view text.now) }
+    ensures agrees { Agrees kind_of (decide of_load (named_game (view text.now))) None (seeing base_rules result) }
+    ensures playable { IfOk result IsBaseGame }
+{
+    Ok(load(alloc, text)?)
+}

@@ -1,0 +1,21 @@
+//! Tests of the layers under the commands, over Kuhn poker and the small games of `spiel_samples`.
+#![tactic(auto)]
+
+#[cfg(test)]
+mod fact_lines;
+#[cfg(test)]
+mod joint_steps;
+#[cfg(test)]
+mod overflow;
+#[cfg(test)]
+mod plain_values;
+#[cfg(test)]
+mod policies;
+#[cfg(test)]
+mod recall;
+#[cfg(test)]
+mod saved_plays;
+#[cfg(test)]
+mod trees;
+#[cfg(test)]
+mod values;
