@@ -8,15 +8,19 @@ ghost use Rattle.spiel_io.specs.declared.calls.FetchFault.TheVariants.{NoMemory 
 use crate::outside::{Failed, Shelf, Sink, Slot};
 use spiel_frac::{NoMemory, Text};
 use std::alloc::Global;
+use thiserror::Error;
 
 /// Why a file was not fetched.
-#[derive(Clone, Copy, Debug, PartialEq, Eq)]
+#[derive(Clone, Copy, Debug, PartialEq, Eq, Error)]
 pub enum FetchFault {
     /// The file could not be begun, or a read failed.
+    #[error("read fault")]
     Read,
     /// The file has more bytes than the limit.
+    #[error("file too long")]
     TooLong,
     /// Memory ran out.
+    #[error("no memory")]
     NoMemory,
 }
 

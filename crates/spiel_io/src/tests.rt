@@ -205,3 +205,16 @@ fn real_files_and_streams(rt: HostRuntime) -> Result<(), Fail> {
     send(&mut HostSink::message(&rt), b"one two\n")?;
     Ok(())
 }
+
+#[test]
+fn faults_have_texts(rt: HostRuntime) -> Result<(), Fail> {
+    let rows = [
+        (FetchFault::Read, "read fault"),
+        (FetchFault::TooLong, "file too long"),
+        (FetchFault::NoMemory, "no memory"),
+    ];
+    for (fault, want) in rows {
+        assert_eq!(rt; fault.to_string(rt.alloc())?.as_str(), want);
+    }
+    Ok(())
+}
