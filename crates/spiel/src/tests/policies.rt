@@ -33,7 +33,7 @@ const FIRST: &[u8] =
 const FIRST_FILE: &[u8] =
     b"{\"policy\":1,\"states\":[{\"actions\":[[0,\"1\"],[1,\"0\"]],\"player\":0,\"state\":\"0\"},{\"actions\":[[0,\"1\"],[1,\"0\"]],\"player\":0,\"state\":\"0pb\"},{\"actions\":[[0,\"1\"],[1,\"0\"]],\"player\":0,\"state\":\"1\"},{\"actions\":[[0,\"1\"],[1,\"0\"]],\"player\":0,\"state\":\"1pb\"},{\"actions\":[[0,\"1\"],[1,\"0\"]],\"player\":0,\"state\":\"2\"},{\"actions\":[[0,\"1\"],[1,\"0\"]],\"player\":0,\"state\":\"2pb\"},{\"actions\":[[0,\"1\"],[1,\"0\"]],\"player\":1,\"state\":\"1p\"},{\"actions\":[[0,\"1\"],[1,\"0\"]],\"player\":1,\"state\":\"1b\"},{\"actions\":[[0,\"1\"],[1,\"0\"]],\"player\":1,\"state\":\"2p\"},{\"actions\":[[0,\"1\"],[1,\"0\"]],\"player\":1,\"state\":\"2b\"},{\"actions\":[[0,\"1\"],[1,\"0\"]],\"player\":1,\"state\":\"0p\"},{\"actions\":[[0,\"1\"],[1,\"0\"]],\"player\":1,\"state\":\"0b\"}]}\n";
 
-const ROWS: [Row; 22] = [
+const ROWS: [Row; 25] = [
     ("judge kuhn_poker uniform", b"", 0, UNIFORM, b""),
     ("judge kuhn_poker a", EQUILIBRIUM, 0, BEST, b""),
     ("judge --brief kuhn_poker first", b"", 0, FIRST, b""),
@@ -133,6 +133,27 @@ const ROWS: [Row; 22] = [
         4,
         b"",
         b"spiel: policy: bad head\n",
+    ),
+    (
+        "judge leduc_poker uniform --brief",
+        b"",
+        0,
+        b"game leduc_poker()\nhistories 9457\nstates 936\nvalue 0 -5/64\nvalue 1 5/64\nbest 0 167/80\nbest 1 383/144\nnash_conv 1709/360\nexploitability 1709/720\n",
+        b"",
+    ),
+    (
+        "judge liars_dice uniform --brief",
+        b"",
+        0,
+        b"game liars_dice()\nhistories 294883\nstates 24576\nvalue 0 -7/216\nvalue 1 7/216\nbest 0 72167/90720\nbest 1 2059/2688\nnash_conv 566633/362880\nexploitability 566633/725760\n",
+        b"",
+    ),
+    (
+        "judge tic_tac_toe uniform --brief",
+        b"",
+        0,
+        b"game tic_tac_toe()\nhistories 549946\nstates 294778\nvalue 0 187/630\nvalue 1 -187/630\nbest 0 191/192\nbest 1 874/945\nnash_conv 116101/60480\nexploitability 116101/120960\n",
+        b"",
     ),
 ];
 
