@@ -256,7 +256,7 @@ const ROWS: [Row; 11] = [
 
 /// Whether the players of a tree get these values.
 fn has_values(tree: &Tree, work: &Work, values: &[i128]) -> bool
-    requires { work.now.tree ≡ tree.now }
+    requires { work.now.judged.tree ≡ tree.now }
 {
     if tree.players() as usize != values.len() {
         return false;
