@@ -35,7 +35,7 @@ module _ {A E : Type 0} where
   quiet_decided (Ask slot name rest) told files r n h = absurd n
 
   -- what is reached is what is decided over the files that are known
-  known_decided : (plan : Plan A E) (told : Option (Files)) (files : Files) (r : Result A E) → Knows told plan files → Reaches plan told r → decided plan files ≡ Some r
+  pub known_decided : (plan : Plan A E) (told : Option (Files)) (files : Files) (r : Result A E) → Knows told plan files → Reaches plan told r → decided plan files ≡ Some r
   known_decided plan told files r (inl e) h = reaches_decided plan files r (subst (λ t. Reaches plan t r) e h)
   known_decided plan told files r (inr p) h = quiet_decided plan told files r p.0 h
 

@@ -1,5 +1,6 @@
 pub mod Case
 pub mod Deciding
+pub mod Judgement
 pub mod Lists
 pub mod Named
 pub mod Outcome

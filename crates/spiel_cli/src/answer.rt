@@ -1,6 +1,7 @@
-ghost use Rattle.std.specs.Prelude.{None, Some, IfOk, map, string_bytes};
+ghost use Rattle.std.specs.Prelude.{None, Some, IfOk, IfSome, map, string_bytes};
 ghost use Rattle.spiel_io.specs.Plan.{BeginsAtMost, Follows};
 ghost use Rattle.spiel_words.specs.Verbs.{command_of};
+ghost use Rattle.spiel_cli.specs.Judgement.{IsReportBy};
 ghost use Rattle.spiel_cli.specs.Outcome.{command_names, command_plan, names_in, plan_by, plan_of};
 ghost use Rattle.spiel_cli.specs.Refusal.{kind_of};
 
@@ -23,6 +24,7 @@ fn answer_command<F: Shelf>(
     shelf: &mut F,
 ) -> Result<Done, Refusal>
     ensures follows { Follows kind_of (command_plan command.now) (F.state shelf.old) (F.state shelf.new) result }
+    ensures report { IfOk result (IsReportBy command.now (F.state shelf.old).files) }
     ensures begins { BeginsAtMost (command_names command.now) 1 (F.state shelf.old) (F.state shelf.new) }
 {
     match command {
@@ -45,6 +47,7 @@ fn answer_command<F: Shelf>(
 /// Does what the words say, up to the writing.
 pub fn answer<F: Shelf>(alloc: Global, words: &[String], shelf: &mut F) -> Result<Done, Refusal>
     ensures follows { Follows kind_of (plan_of (map string_bytes words.now)) (F.state shelf.old) (F.state shelf.new) result }
+    ensures report { IfSome (command_of (map string_bytes words.now)) (λ command. IfOk result (IsReportBy command (F.state shelf.old).files)) }
     ensures begins { BeginsAtMost (names_in (map string_bytes words.now)) 1 (F.state shelf.old) (F.state shelf.new) }
 {
     let command = read_words(alloc, words)?;

@@ -1,10 +1,12 @@
 //! Games with policies that are judged.
-ghost use Rattle.std.specs.Prelude.{IfOk};
+ghost use Rattle.std.specs.Prelude.{◌≡◌, IfOk, None};
 ghost use Rattle.spiel_io.specs.Plan.{BeginsAtMost, Follows};
 ghost use Rattle.spiel_policy.specs.Profiles.{Fits};
 ghost use Rattle.spiel_string.specs.View.{view};
-ghost use Rattle.spiel_cli.specs.Case.{case_of, case_plan, game_case};
+ghost use Rattle.spiel_tree.specs.Trees.{tree_fault, tree_of};
+ghost use Rattle.spiel_cli.specs.Case.{case_of, case_plan, game_case, history_limit};
 ghost use Rattle.spiel_cli.specs.Deciding.{seeing};
+ghost use Rattle.spiel_cli.specs.Judgement.{IsOfGame};
 ghost use Rattle.spiel_cli.specs.Policies.{files_in};
 ghost use Rattle.spiel_cli.specs.Refusal.{kind_of};
 
@@ -39,6 +41,9 @@ fn game_policy<F: Shelf, G: Game>(
 ) -> Result<Case, Refusal>
     requires { G.is_game game.now }
     ensures follows { Follows kind_of (game_case policy.now (record { text = view text; rules = G.rules game.now })) (F.state shelf.old) (F.state shelf.new) (seeing case_of result) }
+    ensures text { IfOk result (λ case. view case.text ≡ view text) }
+    ensures judgeable { IfOk result (λ case. tree_fault (G.rules game.now) history_limit ≡ None) }
+    ensures tree { IfOk result (λ case. case.tree ≡ tree_of (G.rules game.now)) }
     ensures fits { IfOk result (λ case. Fits case.tree case.policy) }
     ensures begins { BeginsAtMost (files_in policy.now) 0 (F.state shelf.old) (F.state shelf.new) }
 {
@@ -55,6 +60,7 @@ pub fn read_case<F: Shelf>(
     policy: &[u8],
 ) -> Result<Case, Refusal>
     ensures follows { Follows kind_of (case_plan game.now policy.now) (F.state shelf.old) (F.state shelf.new) (seeing case_of result) }
+    ensures of_game { IfOk result (λ case. IsOfGame game.now (case_of case)) }
     ensures fits { IfOk result (λ case. Fits case.tree case.policy) }
     ensures begins { BeginsAtMost (files_in policy.now) 0 (F.state shelf.old) (F.state shelf.new) }
 {

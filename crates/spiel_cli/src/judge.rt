@@ -1,5 +1,5 @@
 //! The report on a policy.
-ghost use Rattle.std.specs.Prelude.{◌≡◌, ◌++◌, ◌<◌, ◌≤◌, ℕ, true, codes, length, IfOk, OnOk, None};
+ghost use Rattle.std.specs.Prelude.{◌≡◌, ◌++◌, ◌<◌, ◌≤◌, ℕ, true, codes, length, pos, ◌<ℤ◌, ◌≤ℤ◌, IfOk, OnOk, None};
 ghost use Rattle.std.specs.Fmt.{decimal};
 ghost use Rattle.spiel_frac.specs.Fraction.{frac_text, lowest_terms};
 ghost use Rattle.spiel_io.specs.Plan.{Agrees, BeginsAtMost, Follows};
@@ -7,9 +7,12 @@ ghost use Rattle.spiel_play.specs.Block.{ended, lines_text};
 ghost use Rattle.spiel_policy.specs.Profiles.{Fits};
 ghost use Rattle.spiel_response.specs.Answered.{is_made};
 ghost use Rattle.spiel_response.specs.BestResponses.{best_value, nash_conv_of};
-ghost use Rattle.spiel_response.specs.Values.{denominator_of};
+ghost use Rattle.spiel_response.specs.Values.{NumbersFit, denominator_of};
 ghost use Rattle.spiel_string.specs.View.{view};
+ghost use Rattle.spiel_tree.specs.PerfectRecall.{HasPerfectRecall};
 ghost use Rattle.spiel_tree.specs.States.{states_below};
+ghost use Rattle.spiel_cli.specs.Deciding.{written};
+ghost use Rattle.spiel_cli.specs.Judgement.{IsAnswered, IsReport, IsRight};
 ghost use Rattle.spiel_cli.specs.Policies.{files_in};
 ghost use Rattle.spiel_cli.specs.Refusal.{kind_of};
 ghost use Rattle.spiel_cli.specs.Report.{answer_line, answer_lines, best_line, best_lines, exploitability_line, exploitability_text, histories_line, judge_plan, nash_conv_line, report_text, reported, response_report, states_line, value_report};
@@ -30,7 +33,8 @@ use std::alloc::Global;
 
 /// Adds the lines of how many histories and information states there are.
 fn push_sizes(alloc: Global, tree: &Tree, out: &mut Text) -> Result<(), NoMemory>
-    ensures { OnOk result (out.new ≡ out.old ++ ended (histories_line tree.now) ++ ended (states_line tree.now)) }
+    ensures lines { OnOk result (out.new ≡ out.old ++ ended (histories_line tree.now) ++ ended (states_line tree.now)) }
+    ensures recall { OnOk result (HasPerfectRecall tree.now.rows) }
 {
     out.push(b"histories ")?;
     write_number(alloc, tree.histories(), out)?;
@@ -55,6 +59,7 @@ fn best_of(work: &mut Work, player: u32) -> Frac
     requires { player < work.old.judged.tree.players }
     ensures judged { work.new.judged ≡ work.old.judged }
     ensures made { (p : ℕ) → p ≤ player → (p < player → is_made work.old p ≡ true) → is_made work.new p ≡ true }
+    ensures answered { IsAnswered work.old.judged player }
     ensures best { result ≡ lowest_terms (best_value work.old.judged player) (denominator_of work.old.judged) }
 {
     let best = respond(work, player);
@@ -66,6 +71,7 @@ fn push_best(alloc: Global, work: &mut Work, player: u32, out: &mut Text) -> Res
     requires { player < work.old.judged.tree.players }
     ensures judged { work.new.judged ≡ work.old.judged }
     ensures made { (p : ℕ) → p ≤ player → (p < player → is_made work.old p ≡ true) → is_made work.new p ≡ true }
+    ensures answered { IsAnswered work.old.judged player }
     ensures line { OnOk result (out.new ≡ out.old ++ ended (best_line work.old.judged player)) }
 {
     let best = best_of(work, player);
@@ -77,6 +83,7 @@ fn push_bests(alloc: Global, work: &mut Work, players: u32, out: &mut Text) -> R
     requires { players ≡ work.old.judged.tree.players }
     ensures judged { work.new.judged ≡ work.old.judged }
     ensures made { OnOk result ((p : ℕ) → p < players → is_made work.new p ≡ true) }
+    ensures answered { OnOk result ((p : ℕ) → p < players → IsAnswered work.old.judged p) }
     ensures lines { OnOk result (out.new ≡ out.old ++ lines_text (best_lines work.old.judged)) }
 {
     for player in 0..players {
@@ -88,7 +95,10 @@ fn push_bests(alloc: Global, work: &mut Work, players: u32, out: &mut Text) -> R
 /// Adds the line of NashConv.
 fn push_nash_conv(alloc: Global, work: &Work, out: &mut Text) -> Result<(), NoMemory>
     requires { (p : ℕ) → p < work.now.judged.tree.players → is_made work.now p ≡ true }
-    ensures { OnOk result (out.new ≡ out.old ++ ended (nash_conv_line work.now.judged)) }
+    ensures gap { OnOk result (pos 0 ≤ℤ nash_conv_of work.now.judged) }
+    ensures denominator { OnOk result (pos 0 <ℤ denominator_of work.now.judged) }
+    ensures fits { OnOk result (NumbersFit work.now.judged) }
+    ensures line { OnOk result (out.new ≡ out.old ++ ended (nash_conv_line work.now.judged)) }
 {
     out.push(b"nash_conv ")?;
     write_frac(
@@ -177,6 +187,18 @@ fn push_responses(
     push_answers(alloc, tree, work, out)
 }
 
+/// Adds the lines of NashConv and of the exploitability.
+fn push_gap(alloc: Global, work: &Work, out: &mut Text) -> Result<(), NoMemory>
+    requires { (p : ℕ) → p < work.now.judged.tree.players → is_made work.now p ≡ true }
+    ensures gap { OnOk result (pos 0 ≤ℤ nash_conv_of work.now.judged) }
+    ensures denominator { OnOk result (pos 0 <ℤ denominator_of work.now.judged) }
+    ensures fits { OnOk result (NumbersFit work.now.judged) }
+    ensures lines { OnOk result (out.new ≡ out.old ++ ended (nash_conv_line work.now.judged) ++ ended (exploitability_line work.now.judged)) }
+{
+    push_nash_conv(alloc, work, out)?;
+    push_exploitability(alloc, work, out)
+}
+
 /// Makes all best responses, and adds the lines of the sizes and of all values.
 fn push_value_report(
     alloc: Global,
@@ -187,13 +209,13 @@ fn push_value_report(
     requires tree { tree.now ≡ work.old.judged.tree }
     ensures judged { work.new.judged ≡ work.old.judged }
     ensures made { OnOk result ((p : ℕ) → p < work.new.judged.tree.players → is_made work.new p ≡ true) }
+    ensures right { OnOk result (IsRight work.old.judged) }
     ensures lines { OnOk result (out.new ≡ out.old ++ value_report work.old.judged) }
 {
     push_sizes(alloc, tree, out)?;
     push_values(alloc, work, tree.players(), out)?;
     push_bests(alloc, work, tree.players(), out)?;
-    push_nash_conv(alloc, work, out)?;
-    push_exploitability(alloc, work, out)
+    push_gap(alloc, work, out)
 }
 
 /// Adds the report on a policy: the name of the game, how many histories and information states there
@@ -210,6 +232,7 @@ pub fn report(
 ) -> Result<(), NoMemory>
     requires { tree.now ≡ work.old.judged.tree }
     ensures judged { work.new.judged ≡ work.old.judged }
+    ensures right { OnOk result (IsRight work.old.judged) }
     ensures lines { OnOk result (out.new ≡ out.old ++ report_text brief (record { text = view text.now; judged = work.old.judged })) }
 {
     title(alloc, text, out)?;
@@ -226,7 +249,9 @@ fn tree_report(
     brief: bool,
 ) -> Result<Done, Refusal>
     requires { Fits tree.now policy.now }
-    ensures { Agrees kind_of (reported brief (record { text = view text.now; judged = record { tree = tree.now; profile = policy.now } })) None result }
+    ensures agrees { Agrees kind_of (reported brief (record { text = view text.now; judged = record { tree = tree.now; profile = policy.now } })) None result }
+    ensures is { IfOk result (λ done. done ≡ written (report_text brief (record { text = view text.now; judged = record { tree = tree.now; profile = policy.now } }))) }
+    ensures right { IfOk result (λ done. IsRight (record { tree = tree.now; profile = policy.now })) }
 {
     let mut work = prepare(alloc, tree, policy)?;
     let mut out = Text::new(alloc);
@@ -243,6 +268,7 @@ pub fn judge<F: Shelf>(
     brief: bool,
 ) -> Result<Done, Refusal>
     ensures follows { Follows kind_of (judge_plan game.now policy.now brief) (F.state shelf.old) (F.state shelf.new) result }
+    ensures report { IfOk result (λ done. IsReport game.now policy.now brief (F.state shelf.old).files done) }
     ensures begins { BeginsAtMost (files_in policy.now) 0 (F.state shelf.old) (F.state shelf.new) }
 {
     let case = read_case(alloc, shelf, game, policy)?;

@@ -1,8 +1,13 @@
-ghost use Rattle.std.specs.Prelude.{◌≡◌, ℕ, ◌+◌, ◌<◌, ◌≤◌, ◌⊎◌, IsTrue, IfSome, map, string_bytes};
+ghost use Rattle.std.specs.Prelude.{◌≡◌, ℕ, ◌+◌, ◌<◌, ◌≤◌, ◌⊎◌, Bool, true, List, Some, IsTrue, IfSome, map, string_bytes};
 ghost use Rattle.spiel_io.specs.Causes.{Rose};
 ghost use Rattle.spiel_io.specs.Outside.{Files};
 ghost use Rattle.spiel_io.specs.Plan.{AsksNothing, BeginsAtMost, HoldsAsked, side_asks};
 ghost use Rattle.spiel_io.specs.declared.outside.Slot.TheVariants.{Side};
+ghost use Rattle.spiel_words.specs.Verbs.{command_of};
+ghost use Rattle.spiel_words.specs.declared.command.Command.TheVariants.{Judge};
+ghost use Rattle.spiel_cli.specs.Case.{Case};
+ghost use Rattle.spiel_cli.specs.Judgement.{AreOfCase, HasJudged, Judges};
+ghost use Rattle.spiel_cli.specs.Value.{numbers_fit};
 ghost use Rattle.spiel_cli.specs.Outcome.{names_in, outcome, plan_of};
 ghost use Rattle.spiel_cli.specs.Run.{Completes, Knows, SaysStatus, TakesFront};
 
@@ -23,6 +28,21 @@ pub fn run<F: Shelf, O: Sink, E: Sink>(
     out: &mut O,
     err: &mut E,
 ) -> u8
+    // For every game that can be judged, every complete policy for it, and `judge` of both: where the
+    // numbers fit, no read and no write failed, and memory was found, the report on them was written,
+    // and its numbers and responses are what they are called.
+    ensures headline { (game policy : List ℕ) (brief : Bool) (files : Files) (case : Case)
+        → command_of (map string_bytes words.now) ≡ Some (Judge game policy brief)
+        → Knows (F.state shelf.old).files (plan_of (map string_bytes words.now)) files
+        → AreOfCase game policy files case → numbers_fit case.judged ≡ true
+        → (Rose (F.state shelf.old).faults (F.state shelf.new).faults → ⊥)
+        → (Rose (O.state out.old).faults (O.state out.new).faults → ⊥)
+        → (result ≡ 8) ⊎ ((result ≡ 0) × Judges brief case (O.state out.old) (O.state out.new) (E.state err.old) (E.state err.new)) }
+
+    // And status 0 after `judge` comes only so, whatever the shelf tells.
+    ensures judged { (game policy : List ℕ) (brief : Bool) → command_of (map string_bytes words.now) ≡ Some (Judge game policy brief) → result ≡ 0
+        → HasJudged game policy brief (F.state shelf.old).files (O.state out.old) (O.state out.new) (E.state err.old) (E.state err.new) }
+
     // Where no read and no write failed, the status and all that was written are the outcome of the
     // words and the files, or memory ran out.
     ensures outcome { (files : Files) → Knows (F.state shelf.old).files (plan_of (map string_bytes words.now)) files

@@ -1,7 +1,13 @@
 use Rattle.spiel_cli.specs.Report.{reported}
+use Rattle.spiel_cli.proofs.Judgements.{report_given}
 use Rattle.spiel_cli.proofs.Cases.{case_then, reports_ask_nothing}
 use Rattle.spiel_cli.proofs.judge.judge.Goals as goal
 
 pub returns-clause-follows : goal.returns-clause-follows
 returns-clause-follows g c =
-    case_then c.args.game.now c.args.policy.now (reported c.args.brief) (reports_ask_nothing c.args.brief) _ _ c.in_ok-case.case c.tree_report.result c.in_ok-case.ensures.follows c.tree_report.ensures
+    case_then c.args.game.now c.args.policy.now (reported c.args.brief) (reports_ask_nothing c.args.brief) _ _ c.in_ok-case.case c.tree_report.result c.in_ok-case.ensures.follows c.tree_report.ensures.agrees
+
+pub returns-clause-report : goal.returns-clause-report
+returns-clause-report g c =
+    report_given c.args.game.now c.args.policy.now c.args.brief _ c.in_ok-case.case c.tree_report.result c.in_ok-case.ensures.of_game c.in_ok-case.ensures.follows.agrees
+    c.in_ok-case.ensures.fits c.tree_report.ensures.is c.tree_report.ensures.right

@@ -1,0 +1,17 @@
+use Rattle.std.specs.Prelude.{None}
+use Rattle.spiel_string.specs.Answer.{reading}
+use Rattle.spiel_string.specs.View.{view}
+use Rattle.spiel_load.specs.Base.{base_rules}
+use Rattle.spiel_load.specs.Named.{named_game}
+use Rattle.spiel_cli.specs.Refusal.{of_load, of_string}
+use Rattle.spiel_cli.proofs.Judgements.{decide_gave, game_given}
+use Rattle.spiel_cli.proofs.case.read_case.Goals as goal
+
+pub returns-clause-of_game : goal.returns-clause-of_game
+returns-clause-of_game g c =
+    let text = view c.in_ok-text.text in
+    let rules = base_rules c.in_ok-game.game in
+    game_given c.args.game.now text rules c.game_policy.result
+    (decide_gave of_string (reading c.args.game.now) None text c.in_ok-text.ensures.agrees)
+    (decide_gave of_load (named_game text) None rules c.in_ok-game.ensures.agrees)
+    c.game_policy.ensures.text c.game_policy.ensures.judgeable c.game_policy.ensures.tree
