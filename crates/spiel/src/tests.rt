@@ -2,6 +2,7 @@
 ghost use Rattle.std.specs.Prelude.{◌<◌};
 
 mod commands;
+mod joint_steps;
 mod policies;
 
 use spiel_cli::run;

@@ -1,5 +1,6 @@
 pub mod Cases
 pub mod Completion
+pub mod Games
 pub mod Histories
 pub mod Judgements
 pub mod Parts

@@ -1,6 +1,7 @@
 pub mod Case
 pub mod Deciding
 pub mod Judgement
+pub mod Legal
 pub mod Lists
 pub mod Named
 pub mod Outcome

@@ -5,6 +5,7 @@ use Rattle.spiel_io.specs.Plan.{Plan, Refuse, decided}
 use Rattle.spiel_cli.specs.Refusal.{message_of, status_of}
 use Rattle.spiel_cli.specs.Policies.{files_in}
 use Rattle.spiel_cli.specs.Policy.{policy_plan}
+use Rattle.spiel_cli.specs.Legal.{legal_plan}
 use Rattle.spiel_cli.specs.Report.{judge_plan}
 use Rattle.spiel_cli.specs.Restore.{restore_plan}
 use Rattle.spiel_cli.specs.Save.{save_plan}
@@ -12,7 +13,7 @@ use Rattle.spiel_cli.specs.Show.{show_plan}
 use Rattle.spiel_cli.specs.Value.{value_plan}
 use Rattle.spiel_words.specs.Verbs.{command_of}
 use Rattle.spiel_words.specs.declared.command.Command.{Command}
-use Rattle.spiel_words.specs.declared.command.Command.TheVariants.{Judge, Policy, Restore, Save, Show, Value}
+use Rattle.spiel_words.specs.declared.command.Command.TheVariants.{Judge, Legal, Policy, Restore, Save, Show, Value}
 use Rattle.spiel_cli.specs.declared.done.Done.{Done}
 use Rattle.spiel_cli.specs.declared.refusal.Refusal.{Refusal}
 use Rattle.spiel_cli.specs.declared.refusal.Refusal.TheVariants.{Usage, Read}
@@ -21,6 +22,7 @@ use Rattle.spiel_cli.specs.declared.refusal.Refusal.TheVariants.{Usage, Read}
 abbrev pub command_plan : Command → Plan Done Refusal
 command_plan (Restore file) = restore_plan file
 command_plan (Save game list) = save_plan game list
+command_plan (Legal game list) = legal_plan game list
 command_plan (Show game) = show_plan game
 command_plan (Value game policy) = value_plan game policy
 command_plan (Policy game policy) = policy_plan game policy
@@ -38,6 +40,7 @@ plan_of words = plan_by (command_of words)
 abbrev pub command_names : Command → ℕ
 command_names (Restore file) = 1
 command_names (Save game list) = 0
+command_names (Legal game list) = 0
 command_names (Show game) = 0
 command_names (Value game policy) = files_in policy
 command_names (Policy game policy) = files_in policy

@@ -7,6 +7,7 @@ ghost use Rattle.spiel_cli.specs.Refusal.{kind_of};
 
 use crate::done::Done;
 use crate::judge::judge;
+use crate::legal::legal;
 use crate::policy::policy;
 use crate::refusal::Refusal;
 use crate::restore::restore;
@@ -30,6 +31,7 @@ fn answer_command<F: Shelf>(
     match command {
         Command::Restore { file } => restore(alloc, shelf, file.bytes()),
         Command::Save { game, list } => save(alloc, game.bytes(), list.bytes()),
+        Command::Legal { game, list } => legal(alloc, game.bytes(), list.bytes()),
         Command::Show { game } => show(alloc, game.bytes()),
         Command::Value { game, policy } => values(alloc, shelf, game.bytes(), policy.bytes()),
         Command::Policy {

@@ -6,6 +6,7 @@ mod case;
 mod done;
 mod files;
 mod judge;
+mod legal;
 mod lists;
 mod named;
 mod policies;

@@ -4,10 +4,13 @@ use Rattle.std.specs.List.{find, list_any}
 use Rattle.std.specs.Option.{is_some, option_copied, option_map}
 use Rattle.std.specs.Prelude.{◌||◌}
 use Rattle.std.specs.Str.{bytes_eq}
-use Rattle.spiel_string.specs.View.{pair_view}
+use Rattle.spiel_string.specs.View.{pair_view, value_view}
 use Rattle.spiel_string.specs.declared.value.ParamValue.{ParamValue}
-use Rattle.spiel_load.specs.Given.{bad_key, is_absent, is_bad, is_missing, is_unknown, missing_key, unknown_key, whole_at, whole_of_pair}
+use Rattle.spiel_load.specs.Given.{bad_key, is_absent, is_bad, is_missing, is_unknown, missing_key, unknown_key}
 use Rattle.spiel_load.specs.Params.{Param, param_at, param_view}
+use Rattle.spiel_load.specs.Settings.{given_at}
+use Rattle.spiel_load.specs.Table.{among, entry_view}
+use Rattle.spiel_load.specs.declared.table.Entry.{Entry}
 use Rattle.spiel_load.specs.declared.params.Param.{Param as CodeParam}
 
 find_map : {A B : Type 0} (f : A → B) (q : B → Bool) (xs : List A) → option_map f (find (λ x. q (f x)) xs) ≡ find q (map f xs)
@@ -52,12 +55,19 @@ absent given key r b is e =
     twice true = refl
     twice false = refl
 
--- the number that is given, by what is found
-pub whole_found : (given : List Pair) (key : List ℕ) (default : ℕ) (r found : Option (Bor Pair)) → option_copied r ≡ find (λ pair. bytes_eq pair.0 key) given → r ≡ found
-    → whole_of_pair default (option_map pair_view (option_copied found)) ≡ whole_at (map pair_view given) key default
-whole_found given key default r found e is =
-    sym (ap (λ r. whole_of_pair default (option_map pair_view (option_copied r))) is)
-    ∙ ap (whole_of_pair default) (ap (option_map pair_view) e ∙ find_map pair_view (λ pair. bytes_eq pair.0 key) given)
+-- the value that is given, by what is found
+pub value_found : (given : List Pair) (key : List ℕ) (r found : Option (Bor Pair)) → option_copied r ≡ find (λ pair. bytes_eq pair.0 key) given → r ≡ found
+    → given_at (map pair_view given) key ≡ option_map (λ (pair : Bor Pair). value_view pair.now.1) found
+value_found given key r found e is =
+    ap (option_map (λ pair. pair.1)) (sym (find_map pair_view (λ pair. bytes_eq pair.0 key) given)) ∙ sym (map_twice pair_view (λ pair. pair.1) (find (λ pair. bytes_eq pair.0 key) given))
+    ∙ ap (option_map (λ (pair : Pair). value_view pair.1)) (sym e) ∙ sym (of_copied (λ (pair : Pair). value_view pair.1) r) ∙ ap (option_map (λ (pair : Bor Pair). value_view pair.now.1)) is
+
+-- the game of a name, by what is found
+pub game_found : (entries : List Entry) (name : List ℕ) (r found : Option (Bor Entry)) → option_copied r ≡ find (λ entry. bytes_eq entry.name.now name) entries → r ≡ found
+    → option_map (λ (entry : Bor Entry). entry.now.game) found ≡ among (map entry_view entries) name
+game_found entries name r found e is =
+    sym (ap (option_map (λ (entry : Bor Entry). entry.now.game)) is) ∙ of_copied (λ (entry : Entry). entry.game) r ∙ ap (option_map (λ (entry : Entry). entry.game)) e
+    ∙ map_twice entry_view (λ entry. entry.1) (find (λ entry. bytes_eq entry.name.now name) entries) ∙ ap (option_map (λ entry. entry.1)) (find_map entry_view (λ entry. bytes_eq entry.0 name) entries)
 
 -- ---- the three searches
 key_found : (given : List Pair) (test : List ℕ × Rattle.spiel_string.specs.Game.Value → Bool) (r : Option (Bor Pair)) → option_copied r ≡ find (λ pair. test (pair_view pair)) given

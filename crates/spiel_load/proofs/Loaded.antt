@@ -10,7 +10,8 @@ use Rattle.spiel_string.specs.declared.value.ParamValue.{ParamValue}
 use Rattle.spiel_load.specs.Given.{given_of, wrong_with}
 use Rattle.spiel_load.specs.Named.{known_rules, named_game, unless_wrong, IsComputed}
 use Rattle.spiel_load.specs.Params.{Param}
-use Rattle.spiel_load.specs.Table.{known_of, params_of, rules_of}
+use Rattle.spiel_load.specs.Making.{rules_of}
+use Rattle.spiel_load.specs.Table.{known_of, params_of}
 use Rattle.spiel_load.specs.Wrong.{fault_of}
 use Rattle.spiel_load.specs.declared.fault.LoadFault.{LoadFault}
 use Rattle.spiel_load.specs.declared.given.Wrong.{Wrong}

@@ -1,11 +1,11 @@
 -- What is given to a game with these parameters, and the first that is wrong with it. What is given is a list of keys with
 -- their values. The keys of a well formed game rise in byte order, and those of each game of the table too, so the first
 -- is the first in byte order.
-use Rattle.std.specs.Prelude.{ℕ, pos, ◌&&◌, Bool, false, not, List, [], ◌∷◌, Option, Some, None}
+use Rattle.std.specs.Prelude.{ℕ, ◌&&◌, Bool, false, not, List, [], ◌∷◌, Option, Some, None}
 use Rattle.std.specs.List.{find}
 use Rattle.std.specs.Option.{is_some, option_map}
 use Rattle.std.specs.Str.{bytes_eq}
-use Rattle.spiel_string.specs.Game.{Params, no_params, param, Value, int}
+use Rattle.spiel_string.specs.Game.{Params, no_params, param, Value}
 use Rattle.spiel_load.specs.Params.{Param, in_range, param_at}
 use Rattle.spiel_load.specs.declared.fault.LoadFault.{LoadFault}
 use Rattle.spiel_load.specs.declared.fault.LoadFault.TheVariants.{UnknownParam, BadParam}
@@ -60,16 +60,3 @@ first_of name None None None = None
 -- the first that is wrong with what is given to the game of this name
 abbrev pub wrong_with : List ℕ → List Param → Given → Option LoadFault
 wrong_with name params given = first_of name (unknown_key params given) (bad_key params given) (missing_key params given)
-
--- the whole number that a value is, or else the default
-abbrev pub whole_or : ℕ → Value → ℕ
-whole_or default (int (pos n)) = n
-whole_or default value = default
-
-abbrev pub whole_of_pair : ℕ → Option (List ℕ × Value) → ℕ
-whole_of_pair default None = default
-whole_of_pair default (Some pair) = whole_or default pair.1
-
--- the whole number that is given for the key, or the default where none is given
-abbrev pub whole_at : Given → List ℕ → ℕ → ℕ
-whole_at given key default = whole_of_pair default (find (λ pair. bytes_eq pair.0 key) given)

@@ -3,7 +3,8 @@ use Rattle.std.specs.Prelude.{◌≡◌, ℕ, List, Option, Some, None, Result, 
 use Rattle.spiel_api.specs.Rules.{Rules}
 use Rattle.spiel_string.specs.Game.{Game, game}
 use Rattle.spiel_load.specs.Given.{Given, given_of, wrong_with}
-use Rattle.spiel_load.specs.Table.{known_of, params_of, rules_of}
+use Rattle.spiel_load.specs.Making.{rules_of}
+use Rattle.spiel_load.specs.Table.{known_of, params_of}
 use Rattle.spiel_load.specs.declared.fault.LoadFault.{LoadFault}
 use Rattle.spiel_load.specs.declared.fault.LoadFault.TheVariants.{UnknownGame, UnknownParam, BadParam, NoMemory}
 use Rattle.spiel_load.specs.declared.table.Known.{Known}

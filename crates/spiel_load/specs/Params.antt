@@ -6,8 +6,8 @@ use Rattle.std.specs.Str.{bytes_eq}
 use Rattle.spiel_string.specs.Game.{Value, int, flag, word}
 use Rattle.spiel_load.specs.declared.params.Range.{Range as CodeRange}
 use Rattle.spiel_load.specs.declared.params.Range.TheVariants.{Whole, Flag, OneOf}
-use Rattle.spiel_load.specs.declared.params.Preset.{Preset}
-use Rattle.spiel_load.specs.declared.params.Preset.TheVariants as preset
+use Rattle.spiel_load.specs.declared.params.Setting.{Setting}
+use Rattle.spiel_load.specs.declared.params.Setting.TheVariants as setting
 use Rattle.spiel_load.specs.declared.params.Param.{Param as CodeParam}
 
 -- a whole number from the first to the last of these, a flag, or one of these words
@@ -39,10 +39,10 @@ range_view (Whole least most) = whole least most
 range_view Flag = any_flag
 range_view (OneOf words) = one_of (map (λ w. w.now) words.now)
 
-abbrev pub preset_view : Preset → Value
-preset_view (preset.Whole n) = int (pos n)
-preset_view (preset.Flag b) = flag b
-preset_view (preset.Word w) = word w.now
+abbrev pub setting_view : Setting → Value
+setting_view (setting.Whole n) = int n
+setting_view (setting.Flag b) = flag b
+setting_view (setting.Word w) = word w.now
 
 abbrev pub param_view : CodeParam → Param
-param_view p = record { key = p.key.now; range = range_view p.range; default = option_map preset_view p.default }
+param_view p = record { key = p.key.now; range = range_view p.range; default = option_map setting_view p.default }

@@ -3,18 +3,24 @@ use spiel_api::{Game, Place};
 use spiel_board::TicTacToe;
 use spiel_dice::LiarsDice;
 use spiel_frac::{NoMemory, Text};
+use spiel_goof::Goofspiel;
+use spiel_matrix::Matrix;
 use spiel_poker::{Kuhn, Leduc};
 use std::alloc::Global;
 
 /// One of the games that stand by themselves. All meanings are those of the game inside.
 #[derive(Drop)]
 pub enum Base {
+    /// `goofspiel`
+    Goofspiel(Goofspiel),
     /// `kuhn_poker`
     Kuhn(Kuhn),
     /// `leduc_poker`
     Leduc(Leduc),
     /// `liars_dice`
     LiarsDice(LiarsDice),
+    /// `matrix_mp`, `matrix_rps`, `matrix_pd` and `matrix_bos`
+    Matrix(Matrix),
     /// `tic_tac_toe`
     TicTacToe(TicTacToe),
 }
@@ -23,16 +29,18 @@ pub enum Base {
 /// variant.
 #[derive(Drop)]
 pub enum BaseState {
+    Goofspiel(<Goofspiel as Game>::State),
     Kuhn(<Kuhn as Game>::State),
     Leduc(<Leduc as Game>::State),
     LiarsDice(<LiarsDice as Game>::State),
+    Matrix(<Matrix as Game>::State),
     TicTacToe(<TicTacToe as Game>::State),
 }
 
 // What the game inside answers, the same at each of the variants that are named here.
 macro_rules! at_game {
     ($base:expr, $game:ident => $answer:expr) => {
-        at_game!(Kuhn Leduc LiarsDice TicTacToe; $base, $game => $answer)
+        at_game!(Goofspiel Kuhn Leduc LiarsDice Matrix TicTacToe; $base, $game => $answer)
     };
     ($($name:ident)+; $base:expr, $game:ident => $answer:expr) => {
         match $base {
@@ -45,7 +53,7 @@ macro_rules! at_game {
 // here. A game and a state of two variants stand for no play.
 macro_rules! at_state {
     ($base:expr, $state:expr, ($game:ident, $inner:ident) => $answer:expr) => {
-        at_state!(Kuhn Leduc LiarsDice TicTacToe; $base, $state, ($game, $inner) => $answer)
+        at_state!(Goofspiel Kuhn Leduc LiarsDice Matrix TicTacToe; $base, $state, ($game, $inner) => $answer)
     };
     ($($name:ident)+; $base:expr, $state:expr, ($game:ident, $inner:ident) => $answer:expr) => {
         match ($base, $state) {
@@ -92,9 +100,11 @@ impl Game for Base {
 
     fn start(&self, alloc: Global) -> Result<BaseState, NoMemory> {
         Ok(match self {
+            Base::Goofspiel(game) => BaseState::Goofspiel(game.start(alloc)?),
             Base::Kuhn(game) => BaseState::Kuhn(game.start(alloc)?),
             Base::Leduc(game) => BaseState::Leduc(game.start(alloc)?),
             Base::LiarsDice(game) => BaseState::LiarsDice(game.start(alloc)?),
+            Base::Matrix(game) => BaseState::Matrix(game.start(alloc)?),
             Base::TicTacToe(game) => BaseState::TicTacToe(game.start(alloc)?),
         })
     }
@@ -150,12 +160,18 @@ impl Game for Base {
 
     fn copy(&self, alloc: Global, state: &BaseState) -> Result<BaseState, NoMemory> {
         Ok(match (self, state) {
+            (Base::Goofspiel(game), BaseState::Goofspiel(inner)) => {
+                BaseState::Goofspiel(game.copy(alloc, inner)?)
+            }
             (Base::Kuhn(game), BaseState::Kuhn(inner)) => BaseState::Kuhn(game.copy(alloc, inner)?),
             (Base::Leduc(game), BaseState::Leduc(inner)) => {
                 BaseState::Leduc(game.copy(alloc, inner)?)
             }
             (Base::LiarsDice(game), BaseState::LiarsDice(inner)) => {
                 BaseState::LiarsDice(game.copy(alloc, inner)?)
+            }
+            (Base::Matrix(game), BaseState::Matrix(inner)) => {
+                BaseState::Matrix(game.copy(alloc, inner)?)
             }
             (Base::TicTacToe(game), BaseState::TicTacToe(inner)) => {
                 BaseState::TicTacToe(game.copy(alloc, inner)?)

@@ -3,9 +3,9 @@ ghost use Rattle.std.specs.Prelude.{◌≡◌, ℕ, List, map};
 ghost use Rattle.std.specs.List.{find};
 ghost use Rattle.std.specs.Option.{option_copied, option_map};
 ghost use Rattle.std.specs.Str.{bytes_eq};
-ghost use Rattle.spiel_string.specs.View.{pair_view, value_view};
+ghost use Rattle.spiel_string.specs.View.{pair_view};
 ghost use Rattle.spiel_load.specs.Params.{param_view};
-ghost use Rattle.spiel_load.specs.Given.{is_absent, is_bad, is_missing, is_unknown, whole_at, whole_or, wrong_with};
+ghost use Rattle.spiel_load.specs.Given.{is_absent, is_bad, is_missing, is_unknown, wrong_with};
 ghost use Rattle.spiel_load.specs.Wrong.{fault_of};
 
 use crate::params::{Param, find_param, is_in_range};
@@ -19,8 +19,8 @@ fn has_key(pair: &(Text, ParamValue), key: &[u8]) -> bool
     pair.0.bytes() == key
 }
 
-// The first pair of this key.
-fn find_pair<'a>(given: &'a [(Text, ParamValue)], key: &[u8]) -> Option<&'a (Text, ParamValue)>
+/// The first pair of this key.
+pub fn find_pair<'a>(given: &'a [(Text, ParamValue)], key: &[u8]) -> Option<&'a (Text, ParamValue)>
     ensures { option_copied result ≡ find (λ pair. bytes_eq pair.0 key.now) given.now }
 {
     given.iter().find(|pair| has_key(pair, key))
@@ -108,28 +108,5 @@ pub fn find_wrong<'a>(params: &'a [Param], given: &'a [(Text, ParamValue)]) -> O
     match find_missing(params, given) {
         Some(param) => Some(Wrong::Bad(param.key)),
         None => None,
-    }
-}
-
-// The whole number that a value is, or else the default.
-fn whole_or(value: &ParamValue, default: u64) -> u64
-    ensures { result ≡ whole_or default (value_view value.now) }
-{
-    match value {
-        ParamValue::Int(number) => match u64::try_from(*number) {
-            Ok(number) => number,
-            Err(_) => default,
-        },
-        _ => default,
-    }
-}
-
-/// The whole number that is given for the key, or the default where none is given.
-pub fn whole_at(given: &[(Text, ParamValue)], key: &[u8], default: u64) -> u64
-    ensures { result ≡ whole_at (map pair_view given.now) key.now default }
-{
-    match find_pair(given, key) {
-        Some(pair) => whole_or(&pair.1, default),
-        None => default,
     }
 }

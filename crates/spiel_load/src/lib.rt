@@ -5,7 +5,9 @@ mod base;
 mod fault;
 mod given;
 mod loading;
+mod making;
 mod params;
+mod settings;
 mod table;
 #[cfg(test)]
 mod tests;

@@ -10,7 +10,8 @@ ghost use Rattle.spiel_load.specs.declared.fault.LoadFault.TheVariants.{UnknownG
 use crate::base::Base;
 use crate::fault::LoadFault;
 use crate::given::{Wrong, find_wrong};
-use crate::table::{find_known, make, params};
+use crate::making::make;
+use crate::table::{find_known, params};
 use spiel_frac::{NoMemory, Text};
 use spiel_string::GameText;
 use std::alloc::Global;
@@ -69,5 +70,5 @@ pub fn load(alloc: Global, text: &GameText) -> Result<Any, LoadFault>
     if let Some(wrong) = find_wrong(params(known), given) {
         return Err(told(alloc, name, wrong)?);
     }
-    Ok(make(known, given))
+    Ok(make(alloc, known, given)?)
 }

@@ -20,12 +20,12 @@ pub enum Range {
     OneOf(&'static [&'static [u8]]),
 }
 
-/// The value that a parameter has where none is given.
+/// A value that is no game: one that is given, or one that stands in the table.
 #[derive(Clone, Copy, Debug)]
-pub enum Preset {
-    Whole(u64),
+pub enum Setting<'a> {
+    Whole(i64),
     Flag(bool),
-    Word(&'static [u8]),
+    Word(&'a [u8]),
 }
 
 /// A parameter of a game.
@@ -34,7 +34,7 @@ pub struct Param {
     pub key: &'static [u8],
     pub range: Range,
     /// With no value here one has to be given.
-    pub default: Option<Preset>,
+    pub default: Option<Setting<'static>>,
 }
 
 // Whether the word has these bytes.

@@ -1,91 +1,161 @@
-//! The games that have names. A game that joins them is a variant of [`Known`], a table of its
-//! parameters, and a line in each of [`find_known`], [`params`] and [`make`]. One whose parameters say
-//! more than that they are right has a function that builds it.
-ghost use Rattle.std.specs.Prelude.{◌≡◌, ℕ, List, map, None};
-ghost use Rattle.spiel_string.specs.View.{pair_view};
-ghost use Rattle.spiel_load.specs.Base.{IsBaseGame, base_rules};
-ghost use Rattle.spiel_dice.specs.LiarsDice.{liars_dice_rules};
-ghost use Rattle.spiel_dice.specs.LiarsDiceState.{IsWithinRange};
-ghost use Rattle.spiel_load.specs.declared.table.Known.TheVariants.{LiarsDice as DiceKnown};
-ghost use Rattle.spiel_load.specs.Given.{wrong_with};
+//! The games that have names, and their parameters. A game that joins them is a variant of [`Known`], a
+//! line in [`GAMES`], a table of its parameters, and a line in [`params`].
+ghost use Rattle.std.specs.Prelude.{◌≡◌, map};
+ghost use Rattle.std.specs.List.{find};
+ghost use Rattle.std.specs.Option.{option_copied};
+ghost use Rattle.std.specs.Str.{bytes_eq};
 ghost use Rattle.spiel_load.specs.Params.{param_view};
-ghost use Rattle.spiel_load.specs.Table.{known_of, params_of, rules_of};
+ghost use Rattle.spiel_load.specs.Table.{among, entry_view, known_of, params_of};
 
-use crate::base::Base;
-use crate::given::whole_at;
-use crate::params::{Param, Preset, Range};
-use spiel_board::TicTacToe;
-use spiel_dice::LiarsDice;
-use spiel_frac::Text;
-use spiel_poker::{Kuhn, Leduc};
-use spiel_string::ParamValue;
+use crate::params::{Param, Range, Setting};
+use spiel_matrix::Kind;
 
 /// A game that has a name.
 #[derive(Clone, Copy, Debug, PartialEq, Eq)]
 pub enum Known {
+    /// `goofspiel`
+    Goofspiel,
     /// `kuhn_poker`
     Kuhn,
     /// `leduc_poker`
     Leduc,
     /// `liars_dice`
     LiarsDice,
+    /// `matrix_mp`, `matrix_rps`, `matrix_pd` and `matrix_bos`
+    Matrix(Kind),
     /// `tic_tac_toe`
     TicTacToe,
 }
 
-/// The parameters of Kuhn poker.
-static KUHN: [Param; 1] = [Param {
+/// A number of players that is always 2.
+const TWO_PLAYERS: Param = Param {
     key: b"players",
     range: Range::Whole { least: 2, most: 2 },
-    default: Some(Preset::Whole(2)),
-}];
+    default: Some(Setting::Whole(2)),
+};
 
-/// The parameters of Leduc poker.
-static LEDUC: [Param; 1] = [Param {
-    key: b"players",
-    range: Range::Whole { least: 2, most: 2 },
-    default: Some(Preset::Whole(2)),
-}];
+/// The parameters of goofspiel.
+static GOOFSPIEL: [Param; 5] = [
+    Param {
+        key: b"imp_info",
+        range: Range::Flag,
+        default: Some(Setting::Flag(false)),
+    },
+    Param {
+        key: b"num_cards",
+        range: Range::Whole { least: 1, most: 20 },
+        default: Some(Setting::Whole(13)),
+    },
+    TWO_PLAYERS,
+    Param {
+        key: b"points_order",
+        range: Range::OneOf(&[b"random", b"ascending", b"descending"]),
+        default: Some(Setting::Word(b"random")),
+    },
+    Param {
+        key: b"returns_type",
+        range: Range::OneOf(&[b"win_loss", b"point_difference", b"total_points"]),
+        default: Some(Setting::Word(b"win_loss")),
+    },
+];
+
+/// The parameters of Kuhn poker and of Leduc poker.
+static POKER: [Param; 1] = [TWO_PLAYERS];
 
 /// The parameters of liar's dice.
 static LIARS_DICE: [Param; 3] = [
     Param {
         key: b"dice_sides",
         range: Range::Whole { least: 2, most: 20 },
-        default: Some(Preset::Whole(6)),
+        default: Some(Setting::Whole(6)),
     },
     Param {
         key: b"numdice",
         range: Range::Whole { least: 1, most: 5 },
-        default: Some(Preset::Whole(1)),
+        default: Some(Setting::Whole(1)),
     },
-    Param {
-        key: b"players",
-        range: Range::Whole { least: 2, most: 2 },
-        default: Some(Preset::Whole(2)),
+    TWO_PLAYERS,
+];
+
+/// For a game that has no parameter.
+static NO_PARAMS: [Param; 0] = [];
+
+/// A name, and the game that has it.
+#[derive(Clone, Copy, Debug)]
+struct Entry {
+    name: &'static [u8],
+    game: Known,
+}
+
+/// The games by their names.
+static GAMES: [Entry; 9] = [
+    Entry {
+        name: b"goofspiel",
+        game: Known::Goofspiel,
+    },
+    Entry {
+        name: b"kuhn_poker",
+        game: Known::Kuhn,
+    },
+    Entry {
+        name: b"leduc_poker",
+        game: Known::Leduc,
+    },
+    Entry {
+        name: b"liars_dice",
+        game: Known::LiarsDice,
+    },
+    Entry {
+        name: b"matrix_bos",
+        game: Known::Matrix(Kind::Sexes),
+    },
+    Entry {
+        name: b"matrix_mp",
+        game: Known::Matrix(Kind::Pennies),
+    },
+    Entry {
+        name: b"matrix_pd",
+        game: Known::Matrix(Kind::Dilemma),
+    },
+    Entry {
+        name: b"matrix_rps",
+        game: Known::Matrix(Kind::Rps),
+    },
+    Entry {
+        name: b"tic_tac_toe",
+        game: Known::TicTacToe,
     },
 ];
 
-/// Tic-tac-toe has no parameter.
-static TIC_TAC_TOE: [Param; 0] = [];
+// Whether the entry is that of the name.
+fn has_name(entry: &Entry, name: &[u8]) -> bool
+    ensures { result ≡ bytes_eq entry.now.name.now name.now }
+{
+    entry.name == name
+}
+
+// The first entry of the name.
+fn find_entry<'a>(entries: &'a [Entry], name: &[u8]) -> Option<&'a Entry>
+    ensures { option_copied result ≡ find (λ entry. bytes_eq entry.name.now name.now) entries.now }
+{
+    entries.iter().find(|entry| has_name(entry, name))
+}
+
+// The game of the name, among these.
+fn find_among(entries: &[Entry], name: &[u8]) -> Option<Known>
+    ensures { result ≡ among (map entry_view entries.now) name.now }
+{
+    match find_entry(entries, name) {
+        Some(entry) => Some(entry.game),
+        None => None,
+    }
+}
 
 /// The game of this name.
 pub fn find_known(name: &[u8]) -> Option<Known>
     ensures { result ≡ known_of name.now }
 {
-    if name == b"kuhn_poker".as_slice() {
-        return Some(Known::Kuhn);
-    }
-    if name == b"leduc_poker".as_slice() {
-        return Some(Known::Leduc);
-    }
-    if name == b"liars_dice".as_slice() {
-        return Some(Known::LiarsDice);
-    }
-    if name == b"tic_tac_toe".as_slice() {
-        return Some(Known::TicTacToe);
-    }
-    None
+    find_among(&GAMES, name)
 }
 
 /// The parameters of a game, in byte order of their keys.
@@ -93,34 +163,9 @@ pub fn params(known: Known) -> &'static [Param]
     ensures { map param_view result.now ≡ params_of known }
 {
     match known {
-        Known::Kuhn => &KUHN,
-        Known::Leduc => &LEDUC,
+        Known::Goofspiel => &GOOFSPIEL,
+        Known::Kuhn | Known::Leduc => &POKER,
         Known::LiarsDice => &LIARS_DICE,
-        Known::TicTacToe => &TIC_TAC_TOE,
-    }
-}
-
-// Liar's dice of the numbers that are given, which are in their ranges.
-fn liars_dice(given: &[(Text, ParamValue)]) -> LiarsDice
-    requires { (name : List ℕ) → wrong_with name (params_of DiceKnown) (map pair_view given.now) ≡ None }
-    ensures rules { liars_dice_rules result.dice result.sides ≡ rules_of DiceKnown (map pair_view given.now) }
-    ensures playable { IsWithinRange result.dice result.sides }
-{
-    let numdice = whole_at(given, b"numdice", 1);
-    let sides = whole_at(given, b"dice_sides", 6);
-    LiarsDice::new(numdice as u32, sides as u32).unwrap()
-}
-
-/// The game with what is given, where nothing is wrong with that.
-pub fn make(known: Known, given: &[(Text, ParamValue)]) -> Base
-    requires { (name : List ℕ) → wrong_with name (params_of known) (map pair_view given.now) ≡ None }
-    ensures rules { base_rules result ≡ rules_of known (map pair_view given.now) }
-    ensures playable { IsBaseGame result }
-{
-    match known {
-        Known::Kuhn => Base::Kuhn(Kuhn::new(2).unwrap()),
-        Known::Leduc => Base::Leduc(Leduc::new(2).unwrap()),
-        Known::LiarsDice => Base::LiarsDice(liars_dice(given)),
-        Known::TicTacToe => Base::TicTacToe(TicTacToe::new()),
+        Known::Matrix(_) | Known::TicTacToe => &NO_PARAMS,
     }
 }

@@ -3,14 +3,14 @@ ghost use Rattle.std.specs.Prelude.{IfOk, IfSome};
 ghost use Rattle.spiel_load.specs.Base.{IsBaseGame};
 
 use crate::{Any, LoadFault, load};
-use spiel_api::Game;
+use spiel_api::{Game, Place, WalkFault, walk};
 use spiel_frac::{NoMemory, Text};
 use spiel_string::read_game;
 use std::alloc::Global;
 use std::test::Fail;
 
 // Strings that name a game, with its greatest return and how many outcomes or moves it begins with.
-const NAMED: [(&str, i64, u32); 16] = [
+const NAMED: [(&str, i64, u32); 30] = [
     ("kuhn_poker", 2, 3),
     ("kuhn_poker()", 2, 3),
     ("kuhn_poker(players=2)", 2, 3),
@@ -27,10 +27,63 @@ const NAMED: [(&str, i64, u32); 16] = [
     ("liars_dice(numdice=5)", 1, 6),
     ("liars_dice(numdice=5,dice_sides=3)", 1, 3),
     ("liars_dice(dice_sides=4,numdice=2)", 1, 4),
+    ("goofspiel", 1, 13),
+    ("goofspiel(num_cards=1)", 1, 1),
+    ("goofspiel(num_cards=20)", 1, 20),
+    (
+        "goofspiel(imp_info=False,num_cards=4,players=2,points_order=random,returns_type=win_loss)",
+        1,
+        4,
+    ),
+    ("goofspiel(points_order=ascending,imp_info=true)", 1, 13),
+    ("goofspiel(num_cards=5,points_order=descending)", 1, 5),
+    ("goofspiel(num_cards=3,returns_type=total_points)", 6, 3),
+    (
+        "goofspiel(returns_type=point_difference,num_cards=4)",
+        10,
+        4,
+    ),
+    (
+        "goofspiel(imp_info=false,returns_type=total_points)",
+        91,
+        13,
+    ),
+    ("matrix_mp", 1, 2),
+    ("matrix_rps", 1, 3),
+    ("matrix_pd", 10, 2),
+    ("matrix_bos", 3, 2),
+    (" matrix_bos ( ) ", 3, 2),
+];
+
+// Strings that name a game, numbers of a play of it, and what the one whose choice is next sees then, or
+// nothing where chance is next.
+const SEEN: [(&str, &[u32], &str); 10] = [
+    ("goofspiel", &[], ""),
+    ("goofspiel(num_cards=3)", &[1], "2"),
+    ("goofspiel(points_order=random)", &[12, 0, 1], ""),
+    ("goofspiel(points_order=ascending)", &[], "1"),
+    ("goofspiel(points_order=descending)", &[], "13"),
+    (
+        "goofspiel(num_cards=3,points_order=descending)",
+        &[0, 2],
+        "3/1/3 2",
+    ),
+    (
+        "goofspiel(num_cards=3,points_order=descending,imp_info=True)",
+        &[0, 2],
+        "3/1/l 2",
+    ),
+    (
+        "goofspiel(num_cards=3,points_order=ascending,imp_info=False)",
+        &[2, 1],
+        "1/3/2 2",
+    ),
+    ("matrix_rps", &[], "start"),
+    ("tic_tac_toe", &[4], "moves 4"),
 ];
 
 // Strings with a name that no game has.
-const UNKNOWN_GAMES: [(&str, &str); 6] = [
+const UNKNOWN_GAMES: [(&str, &str); 10] = [
     ("kuhn", "kuhn"),
     ("kuhn_poker_", "kuhn_poker_"),
     ("liars_dic(numdice=1)", "liars_dic"),
@@ -38,10 +91,14 @@ const UNKNOWN_GAMES: [(&str, &str); 6] = [
     ("chess(players=3,z=1)", "chess"),
     ("tictactoe", "tictactoe"),
     ("leduc(players=2)", "leduc"),
+    ("matrix", "matrix"),
+    ("matrix_sh", "matrix_sh"),
+    ("goofspiel13", "goofspiel13"),
+    ("goof(num_cards=x)", "goof"),
 ];
 
 // Strings with a key that the game hasn't.
-const UNKNOWN_KEYS: [(&str, &str, &str); 10] = [
+const UNKNOWN_KEYS: [(&str, &str, &str); 15] = [
     ("kuhn_poker(a=1)", "kuhn_poker", "a"),
     ("kuhn_poker(player=2)", "kuhn_poker", "player"),
     // before a bad value, wherever it stands
@@ -54,6 +111,15 @@ const UNKNOWN_KEYS: [(&str, &str, &str); 10] = [
     ("tic_tac_toe(players=2)", "tic_tac_toe", "players"),
     ("leduc_poker(numdice=1)", "leduc_poker", "numdice"),
     ("liars_dice(numdice=6,sides=6)", "liars_dice", "sides"),
+    ("matrix_mp(players=2)", "matrix_mp", "players"),
+    ("matrix_pd(a=True,b=x)", "matrix_pd", "a"),
+    ("goofspiel(cards=4)", "goofspiel", "cards"),
+    ("goofspiel(imp_info=2,num_cards=0,zz=1)", "goofspiel", "zz"),
+    (
+        "goofspiel(points_order=up,returns_types=win_loss)",
+        "goofspiel",
+        "returns_types",
+    ),
 ];
 
 // Strings with a value that isn't one that the parameter may have.
@@ -94,6 +160,33 @@ const BAD_VALUES: [(&str, &str, &str); 20] = [
     ("liars_dice(players=1,numdice=9)", "liars_dice", "numdice"),
 ];
 
+// The same of goofspiel, whose parameters are of each kind: its key whose value is bad.
+const BAD_IN_GOOFSPIEL: [(&str, &str); 22] = [
+    ("goofspiel(num_cards=0)", "num_cards"),
+    ("goofspiel(num_cards=21)", "num_cards"),
+    ("goofspiel(num_cards=-1)", "num_cards"),
+    ("goofspiel(num_cards=4294967300)", "num_cards"),
+    ("goofspiel(num_cards=four)", "num_cards"),
+    ("goofspiel(num_cards=True)", "num_cards"),
+    ("goofspiel(num_cards=kuhn_poker())", "num_cards"),
+    ("goofspiel(players=3)", "players"),
+    ("goofspiel(players=1)", "players"),
+    ("goofspiel(imp_info=1)", "imp_info"),
+    ("goofspiel(imp_info=0)", "imp_info"),
+    ("goofspiel(imp_info=TRUE)", "imp_info"),
+    ("goofspiel(points_order=1)", "points_order"),
+    ("goofspiel(points_order=True)", "points_order"),
+    ("goofspiel(points_order=rising)", "points_order"),
+    ("goofspiel(points_order=Random)", "points_order"),
+    ("goofspiel(points_order=random())", "points_order"),
+    ("goofspiel(points_order=win_loss)", "points_order"),
+    ("goofspiel(returns_type=0)", "returns_type"),
+    ("goofspiel(returns_type=win)", "returns_type"),
+    ("goofspiel(returns_type=ascending)", "returns_type"),
+    // the first in byte order
+    ("goofspiel(returns_type=x,points_order=x)", "points_order"),
+];
+
 // Whether the game has two players, this cap, and begins with so many outcomes or moves.
 fn begins_with<G: Game>(alloc: Global, game: &G, cap: i64, count: u32) -> Result<bool, NoMemory>
     requires { G.is_game game.now }
@@ -103,6 +196,20 @@ fn begins_with<G: Game>(alloc: Global, game: &G, cap: i64, count: u32) -> Result
     }
     let state = game.start(alloc)?;
     Ok(game.pay_cap() == cap && game.legal_count(&state, 0) == count)
+}
+
+// What the one whose choice is next sees after these numbers, or nothing where none is next.
+fn seen<G: Game>(alloc: Global, game: &G, actions: &[u32]) -> Result<Text, WalkFault>
+    requires { G.is_game game.now }
+{
+    let state = walk(alloc, game, actions)?;
+    let mut out = Text::new(alloc);
+    match game.place(&state) {
+        Place::End | Place::Chance => {}
+        Place::Move(player) => game.info(alloc, &state, player, &mut out)?,
+        Place::Joint(player) => game.info(alloc, &state, player, &mut out)?,
+    }
+    Ok(out)
 }
 
 // What a string names, or its fault, where it is a game string.
@@ -116,6 +223,16 @@ fn loaded(alloc: Global, text: &[u8]) -> Option<Result<Any, LoadFault>>
 fn names(alloc: Global, text: &[u8], cap: i64, count: u32) -> bool {
     match loaded(alloc, text) {
         Some(Ok(game)) => matches!(begins_with(alloc, &game, cap, count), Ok(true)),
+        _ => false,
+    }
+}
+
+fn shows(alloc: Global, text: &[u8], actions: &[u32], info: &[u8]) -> bool {
+    match loaded(alloc, text) {
+        Some(Ok(game)) => match seen(alloc, &game, actions) {
+            Ok(told) => told.bytes() == info,
+            Err(_) => false,
+        },
         _ => false,
     }
 }
@@ -163,22 +280,50 @@ fn games_are_named(rt: HostRuntime) {
 }
 
 #[test]
-fn faults_name_the_game_and_the_key(rt: HostRuntime) {
+fn parameters_choose_the_rules(rt: HostRuntime) {
+    for (text, actions, info) in SEEN {
+        assert!(rt;
+            shows(rt.alloc(), text.as_bytes(), actions, info.as_bytes()),
+            "{text}"
+        );
+    }
+}
+
+#[test]
+fn unknown_names_are_told(rt: HostRuntime) {
     for (text, name) in UNKNOWN_GAMES {
         assert!(rt;
             is_unknown_game(rt.alloc(), text.as_bytes(), name.as_bytes()),
             "{text}"
         );
     }
+}
+
+#[test]
+fn unknown_keys_are_told(rt: HostRuntime) {
     for (text, name, key) in UNKNOWN_KEYS {
         assert!(rt;
             is_unknown_key(rt.alloc(), text.as_bytes(), name.as_bytes(), key.as_bytes()),
             "{text}"
         );
     }
+}
+
+#[test]
+fn bad_values_are_told(rt: HostRuntime) {
     for (text, name, key) in BAD_VALUES {
         assert!(rt;
             is_bad_value(rt.alloc(), text.as_bytes(), name.as_bytes(), key.as_bytes()),
+            "{text}"
+        );
+    }
+}
+
+#[test]
+fn each_kind_of_value_is_looked_at(rt: HostRuntime) {
+    for (text, key) in BAD_IN_GOOFSPIEL {
+        assert!(rt;
+            is_bad_value(rt.alloc(), text.as_bytes(), b"goofspiel", key.as_bytes()),
             "{text}"
         );
     }

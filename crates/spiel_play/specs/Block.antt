@@ -1,5 +1,6 @@
 -- The lines that show a state of a game.
-use Rattle.std.specs.Prelude.{ℕ, zero, suc, pos, List, [], ◌∷◌, ◌++◌, length, map, flat_map, sum, codes, slice_index}
+use Rattle.std.specs.Prelude.{ℕ, zero, suc, pos, Bool, nat_eq, ◌||◌, List, [], ◌∷◌, ◌++◌, length, map, flat_map, sum, codes, slice_index}
+use Rattle.std.specs.List.{filter, starts_with}
 use Rattle.std.specs.Fmt.{decimal}
 use Rattle.spiel_frac.specs.Fraction.{frac_text, lowest_terms, ratio_text}
 use Rattle.spiel_api.specs.declared.place.Place.{Place}
@@ -49,14 +50,28 @@ outcome_lines rules h = map (outcome_line rules h) (below (length (rules.legal h
 abbrev pub info_line : Rules → List ℕ → ℕ → List ℕ
 info_line rules h p = codes "info " ++ decimal p ++ codes ": " ++ rules.info h p
 
+-- what the players know who choose
+abbrev pub info_lines : Rules → List ℕ → Place → List (List ℕ)
+info_lines rules h End = []
+info_lines rules h Chance = []
+info_lines rules h (Move p) = info_line rules h p ∷ []
+info_lines rules h (Joint q) = map (info_line rules h) (below rules.players)
+
 -- a legal action: its number and its name
-abbrev pub legal_line : Rules → List ℕ → ℕ → ℕ → List ℕ
-legal_line rules h p i =
+abbrev pub action_line : Rules → List ℕ → ℕ → ℕ → List ℕ
+action_line rules h p i =
     let a = slice_index (rules.legal h p) i in
     codes "legal " ++ decimal p ++ codes ":" ++ spaced a ++ codes " " ++ rules.name h p a
 
-abbrev pub legal_lines : Rules → List ℕ → ℕ → List (List ℕ)
-legal_lines rules h p = map (legal_line rules h p) (below (length (rules.legal h p)))
+abbrev pub action_lines : Rules → List ℕ → ℕ → List (List ℕ)
+action_lines rules h p = map (action_line rules h p) (below (length (rules.legal h p)))
+
+-- what there is to choose from
+abbrev pub choice_lines : Rules → List ℕ → Place → List (List ℕ)
+choice_lines rules h End = []
+choice_lines rules h Chance = outcome_lines rules h
+choice_lines rules h (Move p) = action_lines rules h p
+choice_lines rules h (Joint q) = flat_map (action_lines rules h) (below rules.players)
 
 -- a return: the parts over the unit
 abbrev pub return_text : Rules → List ℕ → ℕ → List ℕ
@@ -65,16 +80,30 @@ return_text rules h p = 32 ∷ frac_text (lowest_terms (rules.pay h p) (pos rule
 abbrev pub returns_line : Rules → List ℕ → List ℕ
 returns_line rules h = codes "returns:" ++ flat_map (return_text rules h) (below rules.players)
 
--- what there is to choose from, or what the players get
-abbrev pub place_lines : Rules → List ℕ → Place → List (List ℕ)
-place_lines rules h End = returns_line rules h ∷ []
-place_lines rules h Chance = outcome_lines rules h
-place_lines rules h (Move p) = info_line rules h p ∷ legal_lines rules h p
-place_lines rules h (Joint q) = map (info_line rules h) (below rules.players) ++ flat_map (legal_lines rules h) (below rules.players)
+-- what the players get, at the end
+abbrev pub return_lines : Rules → List ℕ → Place → List (List ℕ)
+return_lines rules h End = returns_line rules h ∷ []
+return_lines rules h Chance = []
+return_lines rules h (Move p) = []
+return_lines rules h (Joint q) = []
 
 -- the lines of the state that stands for a history
 abbrev pub block_lines : Rules → List ℕ → List (List ℕ)
-block_lines rules h = history_line h ∷ player_line (rules.place h) ∷ place_lines rules h (rules.place h)
+block_lines rules h =
+    let place = rules.place h in
+    history_line h ∷ player_line place ∷ (info_lines rules h place ++ (choice_lines rules h place ++ return_lines rules h place))
 
 unfoldable pub block_text : Rules → List ℕ → List ℕ
 block_text rules h = lines_text (block_lines rules h)
+
+-- the lines of what there is to choose from alone
+unfoldable pub legal_text : Rules → List ℕ → List ℕ
+legal_text rules h = lines_text (choice_lines rules h (rules.place h))
+
+-- whether a line begins `outcome:` or `legal `
+abbrev pub is_choice : List ℕ → Bool
+is_choice line = starts_with nat_eq line (codes "outcome:") || starts_with nat_eq line (codes "legal ")
+
+-- the lines of the block that begin so
+abbrev pub chosen_lines : Rules → List ℕ → List (List ℕ)
+chosen_lines rules h = filter is_choice (block_lines rules h)

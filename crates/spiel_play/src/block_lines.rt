@@ -1,9 +1,9 @@
 //! The lines that show a state of a game.
 ghost use Rattle.std.specs.Prelude.{◌≡◌, ◌<◌, ◌≤◌, ◌++◌, ◌^◌, length, flat_map, sum, map, pos, OnOk, OnErr, slice_index};
 ghost use Rattle.spiel_frac.specs.Fraction.{ratio_text};
-ghost use Rattle.spiel_api.specs.declared.place.Place.TheVariants.{Chance, End, Joint, Move};
+ghost use Rattle.spiel_api.specs.declared.place.Place.TheVariants.{Chance, End, Joint};
 ghost use Rattle.spiel_api.specs.Place.{HasInfo, IsOutside};
-ghost use Rattle.spiel_play.specs.Block.{below, block_text, ended, history_line, info_line, legal_line, legal_lines, lines_text, next_text, outcome_line, outcome_lines, place_lines, player_line, return_text, returns_line, spaced};
+ghost use Rattle.spiel_play.specs.Block.{action_line, action_lines, below, block_text, choice_lines, chosen_lines, ended, history_line, info_line, info_lines, legal_text, lines_text, next_text, outcome_line, outcome_lines, player_line, return_lines, return_text, returns_line, spaced};
 
 use spiel_api::{Game, Place};
 use spiel_frac::{Frac, NoMemory, Text, write_frac, write_number, write_ratio};
@@ -155,7 +155,7 @@ fn push_action<G: Game>(
     requires at { G.is_at game.now state.now }
     requires player { player < (G.rules game.now).players }
     requires index { index < length ((G.rules game.now).legal (G.history_of game.now state.now) player) }
-    ensures { OnOk result (out.new ≡ out.old ++ ended (legal_line (G.rules game.now) (G.history_of game.now state.now) player index)) }
+    ensures { OnOk result (out.new ≡ out.old ++ ended (action_line (G.rules game.now) (G.history_of game.now state.now) player index)) }
 {
     let action = game.legal_at(state, player, index);
     out.push(b"legal ")?;
@@ -177,7 +177,7 @@ fn push_actions<G: Game>(
 ) -> Result<(), NoMemory>
     requires at { G.is_at game.now state.now }
     requires player { player < (G.rules game.now).players }
-    ensures { OnOk result (out.new ≡ out.old ++ lines_text (legal_lines (G.rules game.now) (G.history_of game.now state.now) player)) }
+    ensures { OnOk result (out.new ≡ out.old ++ lines_text (action_lines (G.rules game.now) (G.history_of game.now state.now) player)) }
 {
     for index in 0..game.legal_count(state, player) {
         push_action(alloc, game, state, player, index, out)?;
@@ -222,21 +222,6 @@ fn push_returns<G: Game>(
     out.push(b"\n")
 }
 
-/// Adds the lines of a joint step: what each player knows, and then what each may choose.
-fn push_joint<G: Game>(
-    alloc: Global,
-    game: &G,
-    state: &G::State,
-    out: &mut Text,
-) -> Result<(), NoMemory>
-    requires at { G.is_at game.now state.now }
-    requires joint { (G.rules game.now).place (G.history_of game.now state.now) ≡ Joint 0 }
-    ensures { OnOk result (out.new ≡ out.old ++ lines_text (place_lines (G.rules game.now) (G.history_of game.now state.now) (Joint 0))) }
-{
-    push_infos(alloc, game, state, out)?;
-    push_all_actions(alloc, game, state, out)
-}
-
 /// Adds the line of what each player knows.
 fn push_infos<G: Game>(
     alloc: Global,
@@ -262,7 +247,7 @@ fn push_all_actions<G: Game>(
     out: &mut Text,
 ) -> Result<(), NoMemory>
     requires { G.is_at game.now state.now }
-    ensures { OnOk result (out.new ≡ out.old ++ lines_text (flat_map (legal_lines (G.rules game.now) (G.history_of game.now state.now)) (below (G.rules game.now).players))) }
+    ensures { OnOk result (out.new ≡ out.old ++ lines_text (flat_map (action_lines (G.rules game.now) (G.history_of game.now state.now)) (below (G.rules game.now).players))) }
 {
     for player in 0..game.players() {
         push_actions(alloc, game, state, player, out)?;
@@ -270,24 +255,8 @@ fn push_all_actions<G: Game>(
     Ok(())
 }
 
-/// Adds the lines of a move: what the player knows, and what there is to choose from.
-fn push_move<G: Game>(
-    alloc: Global,
-    game: &G,
-    state: &G::State,
-    player: u32,
-    out: &mut Text,
-) -> Result<(), NoMemory>
-    requires at { G.is_at game.now state.now }
-    requires mover { (G.rules game.now).place (G.history_of game.now state.now) ≡ Move player }
-    ensures { OnOk result (out.new ≡ out.old ++ lines_text (place_lines (G.rules game.now) (G.history_of game.now state.now) (Move player))) }
-{
-    push_info(alloc, game, state, player, out)?;
-    push_actions(alloc, game, state, player, out)
-}
-
-/// Adds what there is to choose from, or what the players get.
-fn push_choices<G: Game>(
+/// Adds what the players know who choose.
+fn push_known<G: Game>(
     alloc: Global,
     game: &G,
     state: &G::State,
@@ -295,13 +264,46 @@ fn push_choices<G: Game>(
 ) -> Result<(), NoMemory>
     requires at { G.is_at game.now state.now }
     requires outside { IsOutside ((G.rules game.now).place (G.history_of game.now state.now)) }
-    ensures { OnOk result (out.new ≡ out.old ++ lines_text (place_lines (G.rules game.now) (G.history_of game.now state.now) ((G.rules game.now).place (G.history_of game.now state.now)))) }
+    ensures { OnOk result (out.new ≡ out.old ++ lines_text (info_lines (G.rules game.now) (G.history_of game.now state.now) ((G.rules game.now).place (G.history_of game.now state.now)))) }
+{
+    match game.place(state) {
+        Place::Move(player) => push_info(alloc, game, state, player, out),
+        Place::Joint(_) => push_infos(alloc, game, state, out),
+        Place::Chance | Place::End => Ok(()),
+    }
+}
+
+/// Adds what there is to choose from.
+fn push_choices<G: Game>(
+    alloc: Global,
+    game: &G,
+    state: &G::State,
+    out: &mut Text,
+) -> Result<(), NoMemory>
+    requires { G.is_at game.now state.now }
+    ensures { OnOk result (out.new ≡ out.old ++ lines_text (choice_lines (G.rules game.now) (G.history_of game.now state.now) ((G.rules game.now).place (G.history_of game.now state.now)))) }
+{
+    match game.place(state) {
+        Place::End => Ok(()),
+        Place::Chance => push_outcomes(alloc, game, state, out),
+        Place::Move(player) => push_actions(alloc, game, state, player, out),
+        Place::Joint(_) => push_all_actions(alloc, game, state, out),
+    }
+}
+
+/// Adds what the players get, at the end.
+fn push_gained<G: Game>(
+    alloc: Global,
+    game: &G,
+    state: &G::State,
+    out: &mut Text,
+) -> Result<(), NoMemory>
+    requires { G.is_at game.now state.now }
+    ensures { OnOk result (out.new ≡ out.old ++ lines_text (return_lines (G.rules game.now) (G.history_of game.now state.now) ((G.rules game.now).place (G.history_of game.now state.now)))) }
 {
     match game.place(state) {
         Place::End => push_returns(alloc, game, state, out),
-        Place::Chance => push_outcomes(alloc, game, state, out),
-        Place::Move(player) => push_move(alloc, game, state, player, out),
-        Place::Joint(_) => push_joint(alloc, game, state, out),
+        Place::Chance | Place::Move(_) | Place::Joint(_) => Ok(()),
     }
 }
 
@@ -319,7 +321,9 @@ fn push_block<G: Game>(
 {
     push_history(alloc, game.history(state), out)?;
     push_player(alloc, game.place(state), out)?;
-    push_choices(alloc, game, state, out)
+    push_known(alloc, game, state, out)?;
+    push_choices(alloc, game, state, out)?;
+    push_gained(alloc, game, state, out)
 }
 
 /// Adds the lines that show a state: its history, who is next, and then the chance outcomes with
@@ -339,5 +343,41 @@ pub fn block<G: Game>(
 {
     let mut text = Text::new(alloc);
     push_block(alloc, game, state, &mut text)?;
+    out.push(text.bytes())
+}
+
+/// Adds the lines of what there is to choose from alone.
+#[tactic(auto, unfolding(crate::specs::Block::legal_text))]
+fn push_legal<G: Game>(
+    alloc: Global,
+    game: &G,
+    state: &G::State,
+    out: &mut Text,
+) -> Result<(), NoMemory>
+    requires { G.is_at game.now state.now }
+    ensures { OnOk result (out.new ≡ out.old ++ legal_text (G.rules game.now) (G.history_of game.now state.now)) }
+{
+    push_choices(alloc, game, state, out)
+}
+
+/// Of the lines that show a state, adds those that begin `outcome:` or `legal `: the chance outcomes
+/// with their probabilities, or what the mover may do, or what each player of a joint step may do. At
+/// the end there are none. The state doesn't stand inside a joint step. After `NoMemory` the text is
+/// as it was.
+#[tactic(auto, using(crate::proofs::Choices::legal_text_is_chosen))]
+pub fn legal_lines<G: Game>(
+    alloc: Global,
+    game: &G,
+    state: &G::State,
+    out: &mut Text,
+) -> Result<(), NoMemory>
+    requires at { G.is_at game.now state.now }
+    requires outside { IsOutside ((G.rules game.now).place (G.history_of game.now state.now)) }
+    ensures ok { OnOk result (out.new ≡ out.old ++ legal_text (G.rules game.now) (G.history_of game.now state.now)) }
+    ensures chosen { OnOk result (out.new ≡ out.old ++ lines_text (chosen_lines (G.rules game.now) (G.history_of game.now state.now))) }
+    ensures err { OnErr result (out.new ≡ out.old) }
+{
+    let mut text = Text::new(alloc);
+    push_legal(alloc, game, state, &mut text)?;
     out.push(text.bytes())
 }

@@ -5,5 +5,5 @@
 mod block_lines;
 mod fact_lines;
 
-pub use block_lines::block;
+pub use block_lines::{block, legal_lines};
 pub use fact_lines::{facts, title};

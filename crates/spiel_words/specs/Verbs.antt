@@ -3,7 +3,7 @@ use Rattle.std.specs.Prelude.{List, [], ◌∷◌, Option, Some, None, option_an
 use Rattle.std.specs.Str.{bytes_eq}
 use Rattle.spiel_words.specs.Line.{Line, Shape, Text, is_given, read_line, value_of}
 use Rattle.spiel_words.specs.declared.command.Command.{Command}
-use Rattle.spiel_words.specs.declared.command.Command.TheVariants.{Judge, Policy, Restore, Save, Show, Value}
+use Rattle.spiel_words.specs.declared.command.Command.TheVariants.{Judge, Legal, Policy, Restore, Save, Show, Value}
 
 -- ---- shapes
 
@@ -39,6 +39,9 @@ restore_of line = by_value (codes "file") line (λ file. Some (Restore file))
 abbrev pub save_of : Line → Option Command
 save_of line = by_value (codes "game") line (λ game. by_value (codes "list") line (λ moves. Some (Save game moves)))
 
+abbrev pub legal_of : Line → Option Command
+legal_of line = by_value (codes "game") line (λ game. by_value (codes "list") line (λ moves. Some (Legal game moves)))
+
 abbrev pub show_of : Line → Option Command
 show_of line = by_value (codes "game") line (λ game. Some (Show game))
 
@@ -62,6 +65,7 @@ command_of [] = None
 command_of (verb ∷ words) =
     if bytes_eq verb (codes "restore") then command_by file_shape restore_of words
     else if bytes_eq verb (codes "save") then command_by list_shape save_of words
+    else if bytes_eq verb (codes "legal") then command_by list_shape legal_of words
     else if bytes_eq verb (codes "show") then command_by game_shape show_of words
     else if bytes_eq verb (codes "value") then command_by policy_shape value_command_of words
     else if bytes_eq verb (codes "policy") then command_by policy_shape policy_of words

@@ -12,6 +12,11 @@ pub enum Command {
         game: Text,
         list: Text,
     },
+    /// `legal GAME LIST`
+    Legal {
+        game: Text,
+        list: Text,
+    },
     /// `show GAME`
     Show {
         game: Text,

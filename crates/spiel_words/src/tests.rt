@@ -7,7 +7,7 @@ use std::test::Fail;
 
 // Words, split at each `|`, and the command that they are: its verb, and what was found in its
 // places, each in brackets.
-const COMMANDS: [(&str, &str); 28] = [
+const COMMANDS: [(&str, &str); 30] = [
     ("restore|saved", "restore [saved]"),
     ("restore|-", "restore [-]"),
     ("restore|", "restore []"),
@@ -24,6 +24,8 @@ const COMMANDS: [(&str, &str); 28] = [
     ("save|root|kuhn_poker", "save [root] [kuhn_poker]"),
     ("save|--|-g|-1", "save [-g] [-1]"),
     ("save|g|--|-1", "save [g] [-1]"),
+    ("legal|kuhn_poker|root", "legal [kuhn_poker] [root]"),
+    ("legal|--|-g|0,", "legal [-g] [0,]"),
     ("value|g|uniform", "value [g] [uniform]"),
     ("policy|g|./first", "policy [g] [./first]"),
     ("policy|-|-", "policy [-] [-]"),
@@ -39,7 +41,7 @@ const COMMANDS: [(&str, &str); 28] = [
 ];
 
 // Words that are no command.
-const USAGE: [&str; 51] = [
+const USAGE: [&str; 54] = [
     "",
     "|",
     "-",
@@ -54,7 +56,7 @@ const USAGE: [&str; 51] = [
     "restor",
     "restore2",
     "Restore|saved",
-    "legal|g|root",
+    "legals|g|root",
     "restore",
     "restore|--",
     "restore|a|b",
@@ -77,6 +79,9 @@ const USAGE: [&str; 51] = [
     "save|g",
     "save|g|0|1",
     "save|g|-1",
+    "legal|g",
+    "legal|g|0|1",
+    "legal|g|root|--brief",
     "value|g",
     "value|g|uniform|--brief",
     "policy|g|p|q",
@@ -148,6 +153,11 @@ fn push_command(out: &mut Text, command: &Command) -> Result<(), NoMemory> {
         }
         Command::Save { game, list } => {
             out.push(b"save")?;
+            push_place(out, game)?;
+            push_place(out, list)
+        }
+        Command::Legal { game, list } => {
+            out.push(b"legal")?;
             push_place(out, game)?;
             push_place(out, list)
         }

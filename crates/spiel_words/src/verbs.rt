@@ -1,5 +1,5 @@
 ghost use Rattle.std.specs.Prelude.{◌≡◌, None, Some, IfOk, IsErrOf, map, string_bytes};
-ghost use Rattle.spiel_words.specs.Verbs.{command_by, command_of, file_shape, game_shape, judge_of, judge_shape, list_shape, policy_of, policy_shape, restore_of, save_of, show_of, value_command_of};
+ghost use Rattle.spiel_words.specs.Verbs.{command_by, command_of, file_shape, game_shape, judge_of, judge_shape, legal_of, list_shape, policy_of, policy_shape, restore_of, save_of, show_of, value_command_of};
 
 use crate::command::Command;
 use crate::fault::WordsFault;
@@ -24,6 +24,7 @@ pub fn read_words(alloc: Global, words: &[String]) -> Result<Command, WordsFault
     match verb.as_str() {
         "restore" => read_restore(alloc, words),
         "save" => read_save(alloc, words),
+        "legal" => read_legal(alloc, words),
         "show" => read_show(alloc, words),
         "value" => read_value(alloc, words),
         "policy" => read_policy(alloc, words),
@@ -49,6 +50,16 @@ fn read_save(alloc: Global, words: &[String]) -> Result<Command, WordsFault>
     let game = text_of(alloc, &line, "game")?;
     let list = text_of(alloc, &line, "list")?;
     Ok(Command::Save { game, list })
+}
+
+fn read_legal(alloc: Global, words: &[String]) -> Result<Command, WordsFault>
+    ensures ok { IfOk result (λ command. command_by list_shape legal_of (map string_bytes words.now) ≡ Some command) }
+    ensures err { IsErrOf result WordsFault.Usage → command_by list_shape legal_of (map string_bytes words.now) ≡ None }
+{
+    let line = read_line(alloc, &GAME_AND_LIST, words)?;
+    let game = text_of(alloc, &line, "game")?;
+    let list = text_of(alloc, &line, "list")?;
+    Ok(Command::Legal { game, list })
 }
 
 fn read_show(alloc: Global, words: &[String]) -> Result<Command, WordsFault>

@@ -5,7 +5,7 @@ use std::alloc::Global;
 use std::test::Fail;
 
 /// Words, the file `a`, and the status with what is written and said.
-type Row = (
+pub(super) type Row = (
     &'static str,
     &'static [u8],
     u8,
@@ -24,7 +24,7 @@ const BOARD: &[u8] = b"[Meta]\nVersion: 1\n[Game]\ntic_tac_toe()\n[State]\n0\n4\
 const COMMENTED: &[u8] =
     b"# a play\n\n[Meta]\nVersion: 1\n\n[Game]\n# two players\nkuhn_poker\n[State]\n# cards\n2\n\n1\n#";
 
-const ROWS: [Row; 31] = [
+const ROWS: [Row; 45] = [
     ("show kuhn_poker", b"", 0, FACTS, b""),
     ("show kuhn_poker()", b"", 0, FACTS, b""),
     ("show -- kuhn_poker", b"", 0, FACTS, b""),
@@ -134,6 +134,74 @@ const ROWS: [Row; 31] = [
         b"spiel: illegal action at 1\n",
     ),
     (
+        "legal kuhn_poker root",
+        b"",
+        0,
+        b"outcome: 0 1/3 deal 0\noutcome: 1 1/3 deal 1\noutcome: 2 1/3 deal 2\n",
+        b"",
+    ),
+    (
+        "legal kuhn_poker 1",
+        b"",
+        0,
+        b"outcome: 0 1/2 deal 0\noutcome: 2 1/2 deal 2\n",
+        b"",
+    ),
+    (
+        "legal kuhn_poker 2,1,0",
+        b"",
+        0,
+        b"legal 1: 0 pass\nlegal 1: 1 bet\n",
+        b"",
+    ),
+    (
+        "legal leduc_poker 0,2,2,1,5",
+        b"",
+        0,
+        b"legal 0: 1 call\nlegal 0: 2 raise\n",
+        b"",
+    ),
+    ("legal kuhn_poker 1,2,0,0", b"", 0, b"", b""),
+    ("legal kuhn_poker 0,", b"", 4, b"", b"spiel: bad list\n"),
+    ("legal checkers 0,", b"", 4, b"", b"spiel: bad list\n"),
+    (
+        "legal kuhn_poker( 0",
+        b"",
+        4,
+        b"",
+        b"spiel: game string: syntax at 11\n",
+    ),
+    (
+        "legal checkers root",
+        b"",
+        4,
+        b"",
+        b"spiel: unknown game checkers\n",
+    ),
+    (
+        "legal kuhn_poker(players=1) 1,1",
+        b"",
+        4,
+        b"",
+        b"spiel: bad parameter players of kuhn_poker\n",
+    ),
+    (
+        "legal kuhn_poker 1,1",
+        b"",
+        4,
+        b"",
+        b"spiel: illegal action at 1\n",
+    ),
+    (
+        "legal kuhn_poker 1,2,0,0,0",
+        b"",
+        4,
+        b"",
+        b"spiel: illegal action at 4\n",
+    ),
+    ("legal kuhn_poker", b"", 2, b"", USAGE),
+    ("legal kuhn_poker 0, 1", b"", 2, b"", USAGE),
+    (
         "restore a",
         COMMENTED,
         0,
@@ -184,7 +252,7 @@ const ROWS: [Row; 31] = [
     ),
 ];
 
-fn is_row(alloc: Global, row: &Row) -> Result<bool, NoMemory> {
+pub(super) fn is_row(alloc: Global, row: &Row) -> Result<bool, NoMemory> {
     let (line, file, status, wrote, said) = *row;
     comes_of(alloc, line, text(alloc, file, b"")?, status, wrote, said)
 }

@@ -3,9 +3,17 @@ use Rattle.spiel_string.specs.Answer.{reading}
 use Rattle.spiel_string.specs.View.{view}
 use Rattle.spiel_load.specs.Base.{base_rules}
 use Rattle.spiel_load.specs.Named.{named_game}
+use Rattle.spiel_cli.specs.Case.{case_of, game_case}
+use Rattle.spiel_cli.specs.Deciding.{seeing}
 use Rattle.spiel_cli.specs.Refusal.{of_load, of_string}
+use Rattle.spiel_cli.proofs.Games.{game_then}
 use Rattle.spiel_cli.proofs.Judgements.{decide_gave, game_given}
 use Rattle.spiel_cli.proofs.case.read_case.Goals as goal
+
+pub returns-clause-follows : goal.returns-clause-follows
+returns-clause-follows g c =
+    game_then c.args.game.now (view c.in_ok-text.text) (base_rules c.in_ok-game.game) (game_case c.args.policy.now) _ _ (seeing case_of c.game_policy.result)
+    c.in_ok-text.ensures.agrees c.in_ok-game.ensures.agrees c.game_policy.ensures.follows
 
 pub returns-clause-of_game : goal.returns-clause-of_game
 returns-clause-of_game g c =

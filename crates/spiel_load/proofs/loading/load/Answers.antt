@@ -25,4 +25,4 @@ returns-clause-computed c =
     let given = map pair_view c.items-given.result.now in
     let first = wrong_in_table c.in-Some.known (map param_view c.params.result.now) given c.params.ensures c.find_wrong.result None c.in_default-find_wrong.is c.find_wrong.ensures name in
     named_is c.args.text.now name c.items-given.result.now c.bytes-name.ensures c.items-given.ensures c.find_known.result c.in-Some.known c.find_known.ensures c.in-Some.is None first
-    ∙ ap (λ x. Ok x) (sym c.make.ensures.rules)
+    ∙ ap (λ x. Ok x) (sym c.in_ok-make.ensures.rules)

@@ -1,0 +1,47 @@
+-- Going on with a game that was found by its name.
+use Rattle.std.proofs.Common.{◌≡◌, ℕ, List, subst}
+use Rattle.std.specs.Prelude.{None, Result, Ok, Err}
+use Rattle.spiel_io.specs.Outside.{ShelfState}
+use Rattle.spiel_io.specs.Plan.{Plan, Agrees, AsksNothing, Follows}
+use Rattle.spiel_io.proofs.Plan.{follows_agrees, follows_then}
+use Rattle.spiel_io.proofs.Reached.{agrees_then}
+use Rattle.spiel_api.specs.Rules.{Rules}
+use Rattle.spiel_save.specs.Answer.{Played, reading_saved}
+use Rattle.spiel_string.specs.Answer.{reading}
+use Rattle.spiel_string.specs.Game.{Game}
+use Rattle.spiel_load.specs.Named.{named_game}
+use Rattle.spiel_cli.specs.Deciding.{decide}
+use Rattle.spiel_cli.specs.Named.{NamedGame, with_game, with_rules}
+use Rattle.spiel_cli.specs.Refusal.{kind_of, of_load, of_saved, of_string}
+use Rattle.spiel_cli.specs.Restore.{restored, shown}
+use Rattle.spiel_cli.specs.declared.done.Done.{Done}
+use Rattle.spiel_cli.specs.declared.refusal.Refusal.{Refusal}
+
+quiet_decide : {A F : Type 0} (refusal : F → Refusal) (r : Result A F) → AsksNothing (decide refusal r)
+quiet_decide refusal (Ok a) = tt
+quiet_decide refusal (Err fault) = tt
+
+-- a game of these rules was found, and what comes of it was decided
+rules_then : {A : Type 0} (text : Game) (next : NamedGame → Plan A Refusal) (rules : Rules) (r : Result A Refusal) → Agrees kind_of (decide of_load (named_game text)) None (Ok rules)
+    → Agrees kind_of (next (record { text = text; rules = rules })) None r → Agrees kind_of (with_rules text next) None r
+rules_then text next rules r h k = agrees_then (λ rules. next (record { text = text; rules = rules })) rules kind_of (decide of_load (named_game text)) None r h k
+
+-- a saved play was read, its game was found, and its state was shown
+pub shown_then : (bytes : List ℕ) (played : Played) (rules : Rules) (history : List ℕ) (r : Result Done Refusal) → Agrees kind_of (decide of_saved (reading_saved bytes)) None (Ok played)
+    → Agrees kind_of (decide of_load (named_game played.0)) None (Ok rules) → history ≡ played.1 → Agrees kind_of (shown history (record { text = played.0; rules = rules })) None r
+    → Agrees kind_of (restored bytes) None r
+shown_then bytes played rules history r read found same k =
+    agrees_then (λ played. with_rules played.0 (shown played.1)) played kind_of (decide of_saved (reading_saved bytes)) None r read
+    (rules_then played.0 (shown played.1) rules r found (subst (λ (h : List ℕ). Agrees kind_of (shown h (record { text = played.0; rules = rules })) None r) same k))
+
+-- the game of a word was found, and then a plan was followed
+pub game_then : {A : Type 0} (word : List ℕ) (text : Game) (rules : Rules) (next : NamedGame → Plan A Refusal) (old new : ShelfState) (r : Result A Refusal)
+    → Agrees kind_of (decide of_string (reading word)) None (Ok text) → Agrees kind_of (decide of_load (named_game text)) None (Ok rules)
+    → Follows kind_of (next (record { text = text; rules = rules })) old new r → Follows kind_of (with_game word next) old new r
+game_then word text rules next old new r read found k =
+    let reads = decide of_string (reading word) in
+    let finds = decide of_load (named_game text) in
+    follows_then kind_of reads (λ text. with_rules text next) old old new text r
+    (follows_agrees kind_of reads old (Ok text) read (quiet_decide of_string (reading word)))
+    (follows_then kind_of finds (λ rules. next (record { text = text; rules = rules })) old old new rules r
+    (follows_agrees kind_of finds old (Ok rules) found (quiet_decide of_load (named_game text))) k)

@@ -1,0 +1,5 @@
+pub mod Points
+pub mod Numbers
+pub mod Growth
+pub mod Texts
+pub mod FirstStep

@@ -1,0 +1,10 @@
+pub mod Deck
+pub mod CardsLeft
+pub mod Cards
+pub mod Goofspiel
+pub mod Turns
+pub mod Inductions
+pub mod GoofspielPlays
+pub mod Table
+pub mod GoofspielState
+pub mod GoofspielLaws

@@ -1,0 +1,11 @@
+//! Goofspiel, a game in which both players bid at once.
+#![tactic(auto)]
+
+mod cards;
+mod goofspiel;
+mod table;
+#[cfg(test)]
+mod tests;
+mod turns;
+
+pub use goofspiel::{BadCards, Goofspiel, GoofspielState, PointOrder, ReturnKind};

@@ -1,0 +1,126 @@
+//! The table at which goofspiel is played.
+ghost use Rattle.std.specs.Prelude.{◌≡◌, ◌<◌, ◌+◌, ◌^◌, ◌++◌, ◌∷◌, List, ℕ, [], take};
+ghost use Rattle.spiel_goof.specs.Cards.{AreLeft};
+ghost use Rattle.spiel_goof.specs.Goofspiel.{Parts};
+ghost use Rattle.spiel_goof.specs.GoofspielPlays.{IsTurnOf};
+ghost use Rattle.spiel_goof.specs.Table.{IsTable, seat_of};
+
+use crate::cards::Cards;
+use crate::turns::{Stage, Turn};
+
+/// What a player has.
+#[derive(Clone, Copy)]
+pub struct Seat {
+    /// The cards that the player has bid in no complete turn.
+    pub hand: Cards,
+    /// The points so far.
+    pub points: u32,
+}
+
+/// What lies on the table, and what the players have.
+#[derive(Clone, Copy)]
+pub struct Table {
+    /// What lies of the turn that is on.
+    pub stage: Stage,
+    /// The complete turns, and behind them room for more.
+    turns: [Turn; 20],
+    /// How many turns are complete.
+    count: usize,
+    /// The point cards that were in no complete turn.
+    pub deck: Cards,
+    first: Seat,
+    second: Seat,
+}
+
+impl Seat {
+    /// What the player has after a turn with this bid, which gained so many points.
+    fn after(self, bid: u32, gain: u32) -> Seat
+        requires bid { bid < 20 }
+        requires points { self.points + gain < 2 ^ 32 }
+        ensures hand { (gone : List ℕ) → AreLeft self.hand gone → AreLeft result.hand (gone ++ bid ∷ []) }
+        ensures points { result.points ≡ self.points + gain }
+    {
+        Seat {
+            hand: self.hand.without(bid),
+            points: self.points + gain,
+        }
+    }
+}
+
+impl Table {
+    /// The table at the beginning, with what lies of the first turn.
+    pub fn new(stage: Stage) -> Table
+        ensures { IsTable result (record { turns = []; stage = stage }) }
+    {
+        let seat = Seat {
+            hand: Cards::all(),
+            points: 0,
+        };
+        Table {
+            stage,
+            turns: [Turn {
+                point: 0,
+                first: 0,
+                second: 0,
+            }; 20],
+            count: 0,
+            deck: Cards::all(),
+            first: seat,
+            second: seat,
+        }
+    }
+
+    /// The complete turns.
+    pub fn turns(&self) -> &[Turn]
+        requires { self.now.count < 21 }
+        ensures { result.now ≡ take self.now.count self.now.turns }
+    {
+        &self.turns[..self.count]
+    }
+
+    /// How many turns are complete.
+    pub fn count(&self) -> u32
+        requires { self.now.count < 21 }
+        ensures { result ≡ self.now.count }
+    {
+        self.count as u32
+    }
+
+    /// What the player has.
+    pub fn seat(&self, player: u32) -> &Seat
+        ensures { result.now ≡ seat_of player self.now }
+    {
+        if player == 0 {
+            &self.first
+        } else {
+            &self.second
+        }
+    }
+
+    /// The table with something else of the turn that is on.
+    pub fn with(self, stage: Stage) -> Table
+        ensures { (x : Parts) → IsTable self x → IsTable result (record x { stage = stage }) }
+    {
+        Table { stage, ..self }
+    }
+
+    /// The table after a turn, with what lies of the next.
+    pub fn after(self, turn: Turn, next: Stage) -> Table
+        requires count { self.count < 20 }
+        requires cards { IsTurnOf 20 turn }
+        requires first { self.first.points < 1000 }
+        requires second { self.second.points < 1000 }
+        ensures { (x : Parts) → IsTable self x → IsTable result (record { turns = x.turns ++ turn ∷ []; stage = next }) }
+    {
+        let mut turns = self.turns;
+        turns[self.count] = turn;
+        Table {
+            stage: next,
+            turns,
+            count: self.count + 1,
+            deck: self.deck.without(turn.point),
+            first: self.first.after(turn.first, turn.gain(0)),
+            second: self.second.after(turn.second, turn.gain(1)),
+        }
+    }
+}

@@ -1,0 +1,18 @@
+//! Matrix games: payoff tables of players who choose at once.
+#![tactic(auto)]
+
+mod contingencies;
+mod fault;
+mod matrix;
+mod named;
+mod names;
+mod parts;
+mod pays;
+mod shape;
+#[cfg(test)]
+mod tests;
+
+pub use fault::MatrixFault;
+pub use matrix::Matrix;
+pub use named::Kind;
+pub use parts::MatrixParts;
