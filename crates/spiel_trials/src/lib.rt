@@ -6,16 +6,10 @@ mod fact_lines;
 #[cfg(test)]
 mod joint_steps;
 #[cfg(test)]
-mod overflow;
-#[cfg(test)]
-mod plain_values;
-#[cfg(test)]
-mod policies;
-#[cfg(test)]
 mod recall;
 #[cfg(test)]
 mod saved_plays;
 #[cfg(test)]
-mod trees;
+mod state_lines;
 #[cfg(test)]
-mod values;
+mod trees;

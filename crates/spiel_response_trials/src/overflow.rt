@@ -5,8 +5,8 @@
 //! that takes the first number.
 ghost use Rattle.std.specs.Prelude.{◌≡◌};
 
-use super::policies::{Choice, policy_for};
 use spiel_api::Game;
+use spiel_policy_trials::{Choice, policy_for};
 use spiel_response::{JudgeFault, Work, prepare, value};
 use spiel_samples::{Node, Table};
 use spiel_tree::{Tree, build};

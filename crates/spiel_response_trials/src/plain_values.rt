@@ -2,9 +2,9 @@
 //! and all leaves in one list.
 ghost use Rattle.std.specs.Prelude.{◌<◌};
 
-use super::policies::Choice;
 use spiel_api::{Game, Place, walk};
 use spiel_frac::List;
+use spiel_policy_trials::Choice;
 use std::alloc::Global;
 
 /// A history that is reached `num` times of `den`.
@@ -141,7 +141,7 @@ fn all_leaves<G: Game>(alloc: Global, game: &G, choice: Choice, player: u32) -> 
 }
 
 /// The greatest common divisor, by Euclid's division, of numbers that it takes few steps for.
-fn divisor(a: u128, b: u128) -> u128 {
+pub(super) fn divisor(a: u128, b: u128) -> u128 {
     let mut a = a;
     let mut b = b;
     for _ in 0..1000 {

@@ -1,9 +1,9 @@
 //! What policies are worth, beside a second, plain computation.
 
 use super::plain_values::plain;
-use super::policies::{Choice, THREE, policy_for};
 use spiel_api::Game;
 use spiel_poker::Kuhn;
+use spiel_policy_trials::{Choice, THREE, policy_for};
 use spiel_response::{prepare, value};
 use spiel_samples::{Node, Table};
 use spiel_tree::build;
@@ -58,7 +58,7 @@ struct Row {
 
 /// Chance draws one of three numbers, of which the last never comes, and the only player, who
 /// doesn't see which, has two.
-const DRAWN: &[Node] = &[
+pub(super) const DRAWN: &[Node] = &[
     Node::Chance(&[(1, 1), (2, 2), (0, 3)]),
     Node::Decision(0, b"dark", &[4, 5]),
     Node::Decision(0, b"dark", &[5, 6]),
@@ -81,7 +81,7 @@ const FORKED: &[Node] = &[
 ];
 
 /// After player 0's 0 player 1 moves, and after a 1 chance draws.
-const UNEVEN: &[Node] = &[
+pub(super) const UNEVEN: &[Node] = &[
     Node::Decision(0, b"dark", &[1, 2]),
     Node::Decision(1, b"dark", &[3, 4, 5]),
     Node::Chance(&[(1, 4), (3, 5)]),

@@ -11,7 +11,7 @@ use std::alloc::Global;
 
 /// A policy that each tree has.
 #[derive(Clone, Copy, Debug, PartialEq, Eq)]
-pub(super) enum Choice {
+pub enum Choice {
     /// Whoever moves takes each number with the same probability.
     Uniform,
     /// Whoever moves takes the first number.
@@ -19,7 +19,7 @@ pub(super) enum Choice {
 }
 
 /// The policy for a tree, where there is memory.
-pub(super) fn policy_for(alloc: Global, tree: &Tree, choice: Choice) -> Option<Policy>
+pub fn policy_for(alloc: Global, tree: &Tree, choice: Choice) -> Option<Policy>
     ensures { IfSome result (λ policy. Fits tree.now policy) }
 {
     match choice {
@@ -29,10 +29,10 @@ pub(super) fn policy_for(alloc: Global, tree: &Tree, choice: Choice) -> Option<P
 }
 
 /// The weights at an information state, and their total.
-type State = (&'static [u128], u128);
+pub(super) type State = (&'static [u128], u128);
 
 /// The weight of a number, where there is one with this index.
-fn weight_at(tree: &Tree, policy: &Policy, state: u32, index: u32) -> Option<u128>
+pub fn weight_at(tree: &Tree, policy: &Policy, state: u32, index: u32) -> Option<u128>
     requires { Fits tree.now policy.now }
 {
     if state < tree.states() && index < tree.action_count(state) {
@@ -61,6 +61,21 @@ fn is_state(tree: &Tree, policy: &Policy, state: u32, want: &State) -> bool
     true
 }
 
+/// Whether there are so many information states, and the policy has these weights there.
+pub(super) fn are_states(tree: &Tree, policy: &Policy, want: &[State]) -> bool
+    requires { Fits tree.now policy.now }
+{
+    if tree.states() as usize != want.len() {
+        return false;
+    }
+    for state in 0..tree.states() {
+        if !is_state(tree, policy, state, &want[state as usize]) {
+            return false;
+        }
+    }
+    true
+}
+
 /// Whether a game has these information states, no more, and the policy these weights.
 fn has_states<G: Game>(alloc: Global, game: &G, choice: Choice, want: &[State]) -> bool
     requires { G.is_game game.now }
@@ -71,20 +86,12 @@ fn has_states<G: Game>(alloc: Global, game: &G, choice: Choice, want: &[State]) 
     let Some(policy) = policy_for(alloc, &tree, choice) else {
         return false;
     };
-    if tree.states() as usize != want.len() {
-        return false;
-    }
-    for state in 0..tree.states() {
-        if !is_state(&tree, &policy, state, &want[state as usize]) {
-            return false;
-        }
-    }
-    true
+    are_states(&tree, &policy, want)
 }
 
 /// Chance draws, and each of three players moves once, of whom player 0 has one number alone. What
 /// they get depends on the sum of the numbers.
-pub(super) const THREE: &[Node] = &[
+pub const THREE: &[Node] = &[
     Node::Chance(&[(1, 1), (2, 2)]),
     Node::Decision(2, b"dark", &[3, 4, 5]),
     Node::Decision(2, b"dark", &[4, 5, 6]),
@@ -107,9 +114,9 @@ const THREE_UNIFORM: [State; 3] = [(&[1], 1), (&[1, 1], 2), (&[1, 1, 1], 3)];
 
 const THREE_FIRST: [State; 3] = [(&[1], 1), (&[1, 0], 1), (&[1, 0, 0], 1)];
 
-const KUHN_UNIFORM: [State; 12] = [(&[1, 1], 2); 12];
+pub(super) const KUHN_UNIFORM: [State; 12] = [(&[1, 1], 2); 12];
 
-const KUHN_FIRST: [State; 12] = [(&[1, 0], 1); 12];
+pub(super) const KUHN_FIRST: [State; 12] = [(&[1, 0], 1); 12];
 
 #[test]
 fn each_tree_has_two_policies(rt: HostRuntime) {
