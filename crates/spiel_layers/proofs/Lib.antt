@@ -1,0 +1,5 @@
+pub mod HiddenChoices
+pub mod RepeatFaults
+pub mod RepeatedRounds
+pub mod RepeatedSteps
+pub mod RoundsTold

@@ -1,0 +1,14 @@
+pub mod Laws
+pub mod Layer
+pub mod LayerLaws
+pub mod Misere
+pub mod MisereLaws
+pub mod PieceLaws
+pub mod Repeated
+pub mod RepeatedLaws
+pub mod RepeatedState
+pub mod RepeatedTexts
+pub mod StartAt
+pub mod StartAtLaws
+pub mod TurnBased
+pub mod TurnBasedLaws

@@ -1,0 +1,19 @@
+//! Games that are made of other games.
+#![tactic(auto)]
+
+mod laws;
+mod layer;
+mod misere;
+mod repeated;
+mod start_at;
+#[cfg(test)]
+mod tests;
+mod told;
+mod turn_based;
+
+pub use laws::{choices_are_hidden, plays_go_on, rounds_are_plays};
+pub use layer::{Layer, LayerState};
+pub use misere::Misere;
+pub use repeated::{RepeatFault, Repeated, RepeatedState};
+pub use start_at::StartAt;
+pub use turn_based::TurnBased;
