@@ -4,6 +4,7 @@ ghost use Rattle.std.specs.Prelude.{◌<◌};
 mod commands;
 mod joint_steps;
 mod policies;
+mod transforms;
 
 use spiel_cli::run;
 use spiel_frac::{List, NoMemory, Text};

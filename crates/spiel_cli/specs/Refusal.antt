@@ -12,6 +12,8 @@ use Rattle.spiel_save.specs.declared.fault.SavedFault.{SavedFault}
 use Rattle.spiel_save.specs.declared.fault.SavedFault.TheVariants as saved
 use Rattle.spiel_load.specs.declared.fault.LoadFault.{LoadFault}
 use Rattle.spiel_load.specs.declared.fault.LoadFault.TheVariants as load
+use Rattle.spiel_layers.specs.declared.repeated.RepeatFault.{RepeatFault}
+use Rattle.spiel_layers.specs.declared.repeated.RepeatFault.TheVariants as repeat
 use Rattle.spiel_api.specs.declared.walking.WalkFault.{WalkFault}
 use Rattle.spiel_api.specs.declared.walking.WalkFault.TheVariants.{Illegal as IllegalAt, Unfinished as UnfinishedAt, NoMemory as WalkNoMemory}
 use Rattle.spiel_io.specs.declared.calls.FetchFault.{FetchFault}
@@ -74,6 +76,9 @@ abbrev pub of_load : LoadFault → Refusal
 of_load (load.UnknownGame name) = Bad (Loading (load.UnknownGame name))
 of_load (load.UnknownParam name key) = Bad (Loading (load.UnknownParam name key))
 of_load (load.BadParam name key) = Bad (Loading (load.BadParam name key))
+of_load load.TooDeep = Bad (Loading load.TooDeep)
+of_load (load.Repeat fault) = Bad (Loading (load.Repeat fault))
+of_load (load.Start fault) = Bad (Loading (load.Start fault))
 of_load load.NoMemory = NoMemory
 
 -- a fault of the game string in a file is one like any other
@@ -116,11 +121,26 @@ of_policy tree policy.NoMemory = NoMemory
 abbrev pub line : List ℕ → List ℕ
 line text = codes "spiel: " ++ text ++ 10 ∷ []
 
--- what is wrong with the name of a game, or with one of its parameters
+-- why a game isn't repeated
+abbrev pub repeat_message : RepeatFault → List ℕ
+repeat_message repeat.NotOneShot = codes "stage game is not one-shot"
+repeat_message repeat.Repeats = codes "bad number of repetitions"
+repeat_message repeat.PayTooFine = codes "repeated payoffs too large"
+
+-- why a game doesn't start behind some first numbers
+abbrev pub start_message : WalkFault → List ℕ
+start_message (IllegalAt at) = codes "start: illegal action at " ++ decimal at
+start_message (UnfinishedAt at) = codes "start: unfinished joint step at " ++ decimal at
+start_message WalkNoMemory = codes "no memory"
+
+-- what is wrong with the name of a game, with one of its parameters, or with a transform
 abbrev pub load_message : LoadFault → List ℕ
 load_message (load.UnknownGame name) = codes "unknown game " ++ name
 load_message (load.UnknownParam name key) = codes "unknown parameter " ++ key ++ codes " of " ++ name
 load_message (load.BadParam name key) = codes "bad parameter " ++ key ++ codes " of " ++ name
+load_message load.TooDeep = codes "more than three transforms"
+load_message (load.Repeat fault) = repeat_message fault
+load_message (load.Start fault) = start_message fault
 load_message load.NoMemory = codes "no memory"
 
 abbrev pub bad_message : BadInput → List ℕ

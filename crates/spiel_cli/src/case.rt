@@ -35,19 +35,19 @@ pub struct Case {
 fn game_policy<F: Shelf, G: Game>(
     alloc: Global,
     shelf: &mut F,
-    game: &G,
+    game: G,
     text: GameText,
     policy: &[u8],
 ) -> Result<Case, Refusal>
-    requires { G.is_game game.now }
-    ensures follows { Follows kind_of (game_case policy.now (record { text = view text; rules = G.rules game.now })) (F.state shelf.old) (F.state shelf.new) (seeing case_of result) }
+    requires { G.is_game game }
+    ensures follows { Follows kind_of (game_case policy.now (record { text = view text; rules = G.rules game })) (F.state shelf.old) (F.state shelf.new) (seeing case_of result) }
     ensures text { IfOk result (λ case. view case.text ≡ view text) }
-    ensures judgeable { IfOk result (λ case. tree_fault (G.rules game.now) history_limit ≡ None) }
-    ensures tree { IfOk result (λ case. case.tree ≡ tree_of (G.rules game.now)) }
+    ensures judgeable { IfOk result (λ case. tree_fault (G.rules game) history_limit ≡ None) }
+    ensures tree { IfOk result (λ case. case.tree ≡ tree_of (G.rules game)) }
     ensures fits { IfOk result (λ case. Fits case.tree case.policy) }
     ensures begins { BeginsAtMost (files_in policy.now) 0 (F.state shelf.old) (F.state shelf.new) }
 {
-    let tree = build(alloc, game, HISTORY_LIMIT)?;
+    let tree = build(alloc, &game, HISTORY_LIMIT)?;
     let policy = choose_policy(alloc, shelf, &tree, policy)?;
     Ok(Case { text, tree, policy })
 }
@@ -66,5 +66,5 @@ pub fn read_case<F: Shelf>(
 {
     let text = read_word(alloc, game)?;
     let game = load_named(alloc, &text)?;
-    game_policy(alloc, shelf, &game, text, policy)
+    game_policy(alloc, shelf, game, text, policy)
 }

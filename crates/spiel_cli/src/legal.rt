@@ -18,16 +18,16 @@ use std::alloc::Global;
 /// What may be chosen after a history.
 fn show_choices<G: Game>(
     alloc: Global,
-    game: &G,
+    game: G,
     text: &GameText,
     history: &[u32],
 ) -> Result<Done, Refusal>
-    requires { G.is_game game.now }
-    ensures { Agrees kind_of (offered history.now (record { text = view text.now; rules = G.rules game.now })) None result }
+    requires { G.is_game game }
+    ensures { Agrees kind_of (offered history.now (record { text = view text.now; rules = G.rules game })) None result }
 {
-    let state = walk(alloc, game, history)?;
+    let state = walk(alloc, &game, history)?;
     let mut out = Text::new(alloc);
-    legal_lines(alloc, game, &state, &mut out)?;
+    legal_lines(alloc, &game, &state, &mut out)?;
     Ok(Done { out, same: true })
 }
 
@@ -37,7 +37,7 @@ fn show_choices_named(alloc: Global, game: &[u8], history: &[u32]) -> Result<Don
 {
     let text = read_word(alloc, game)?;
     let game = load_named(alloc, &text)?;
-    show_choices(alloc, &game, &text, history)
+    show_choices(alloc, game, &text, history)
 }
 
 /// `legal GAME LIST`: the chance outcomes after a play, or the legal actions of whoever chooses next.

@@ -4,12 +4,12 @@ ghost use Rattle.spiel_io.specs.Plan.{Agrees};
 ghost use Rattle.spiel_string.specs.Answer.{reading};
 ghost use Rattle.spiel_string.specs.View.{view};
 ghost use Rattle.spiel_string.specs.WellFormed.{IsWellFormed};
-ghost use Rattle.spiel_load.specs.Base.{IsBaseGame, base_rules};
 ghost use Rattle.spiel_load.specs.Named.{named_game};
 ghost use Rattle.spiel_cli.specs.Deciding.{decide, seeing};
 ghost use Rattle.spiel_cli.specs.Refusal.{kind_of, of_load, of_string};
 
 use crate::refusal::Refusal;
+use spiel_api::Game;
 use spiel_load::{Any, load};
 use spiel_string::{GameText, read_game};
 use std::alloc::Global;
@@ -25,8 +25,8 @@ pub fn read_word(alloc: Global, word: &[u8]) -> Result<GameText, Refusal>
 /// The game that a game string names.
 pub fn load_named(alloc: Global, text: &GameText) -> Result<Any, Refusal>
     requires { IsWellFormed (view text.now) }
-    ensures agrees { Agrees kind_of (decide of_load (named_game (view text.now))) None (seeing base_rules result) }
-    ensures playable { IfOk result IsBaseGame }
+    ensures agrees { Agrees kind_of (decide of_load (named_game (view text.now))) None (seeing ⟦<Any as Game>⟧.rules result) }
+    ensures playable { IfOk result ⟦<Any as Game>⟧.is_game }
 {
     Ok(load(alloc, text)?)
 }

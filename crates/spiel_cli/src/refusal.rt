@@ -2,12 +2,13 @@ ghost use Rattle.std.specs.Prelude.{◌≡◌, ◌∷◌, ◌++◌, codes, cond,
 ghost use Rattle.std.specs.Fmt.{decimal};
 ghost use Rattle.spiel_string.specs.Faults as of_strings;
 ghost use Rattle.spiel_save.specs.Faults as of_files;
-ghost use Rattle.spiel_cli.specs.Refusal.{bad_message, history_text, message_of, load_message, of_fetch, of_judge, of_load, of_saved, of_string, of_tree, of_walk, of_words, pair_text, status_of, unfit_message, unjudged_message};
+ghost use Rattle.spiel_cli.specs.Refusal.{bad_message, history_text, message_of, load_message, of_fetch, of_judge, of_load, of_saved, of_string, of_tree, of_walk, of_words, pair_text, repeat_message, start_message, status_of, unfit_message, unjudged_message};
 ghost use Rattle.spiel_cli.specs.declared.refusal.Refusal.TheVariants.{NoMemory as OutOfMemory};
 
 use spiel_api::WalkFault;
 use spiel_frac::{List, NoMemory, Text, write_number};
 use spiel_io::FetchFault;
+use spiel_layers::RepeatFault;
 use spiel_load::LoadFault;
 use spiel_response::JudgeFault;
 use spiel_save::SavedFault;
@@ -261,8 +262,32 @@ fn push_named(words: &[u8], name: &Text, out: &mut Text) -> Result<(), NoMemory>
     out.push(name.bytes())
 }
 
+/// Why a game isn't repeated, in words.
+fn repeat_message(fault: RepeatFault) -> &'static [u8]
+    ensures { result.now ≡ repeat_message fault }
+{
+    match fault {
+        RepeatFault::NotOneShot => b"stage game is not one-shot",
+        RepeatFault::Repeats => b"bad number of repetitions",
+        RepeatFault::PayTooFine => b"repeated payoffs too large",
+    }
+}
+
+/// Adds why a game doesn't start behind some first numbers, in words.
+fn push_start(alloc: Global, fault: WalkFault, out: &mut Text) -> Result<(), NoMemory>
+    ensures { OnOk result (out.new ≡ out.old ++ start_message fault) }
+{
+    match fault {
+        WalkFault::Illegal { at } => push_place(alloc, b"start: illegal action at ", at, out),
+        WalkFault::Unfinished { at } => {
+            push_place(alloc, b"start: unfinished joint step at ", at, out)
+        }
+        WalkFault::NoMemory => out.push(b"no memory"),
+    }
+}
+
 /// Adds what is wrong with the name of a game, in words.
-fn push_loading(fault: &LoadFault, out: &mut Text) -> Result<(), NoMemory>
+fn push_loading(alloc: Global, fault: &LoadFault, out: &mut Text) -> Result<(), NoMemory>
     ensures { OnOk result (out.new ≡ out.old ++ load_message fault.now) }
 {
     match fault {
@@ -271,6 +296,9 @@ fn push_loading(fault: &LoadFault, out: &mut Text) -> Result<(), NoMemory>
             push_parameter(b"unknown parameter ", key, name, out)
         }
         LoadFault::BadParam { name, key } => push_parameter(b"bad parameter ", key, name, out),
+        LoadFault::TooDeep => out.push(b"more than three transforms"),
+        LoadFault::Repeat(fault) => out.push(repeat_message(*fault)),
+        LoadFault::Start(fault) => push_start(alloc, *fault, out),
         LoadFault::NoMemory => out.push(b"no memory"),
     }
 }
@@ -299,7 +327,7 @@ fn push_bad(alloc: Global, bad: &BadInput, out: &mut Text) -> Result<(), NoMemor
         BadInput::FileTooLong => out.push(b"file too long"),
         BadInput::BadList => out.push(b"bad list"),
         BadInput::GameString(fault) => push_string_fault(alloc, *fault, out),
-        BadInput::Loading(fault) => push_loading(fault, out),
+        BadInput::Loading(fault) => push_loading(alloc, fault, out),
         BadInput::SavedFile(fault) => push_saved_fault(alloc, *fault, out),
         BadInput::Illegal { at } => push_place(alloc, b"illegal action at ", *at, out),
         BadInput::Unfinished { at } => push_place(alloc, b"unfinished joint step at ", *at, out),

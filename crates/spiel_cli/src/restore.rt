@@ -31,17 +31,17 @@ fn read_play(alloc: Global, bytes: &[u8]) -> Result<Saved, Refusal>
 /// The name of a game, and the lines of its state for a history.
 fn show_state<G: Game>(
     alloc: Global,
-    game: &G,
+    game: G,
     text: &GameText,
     history: &[u32],
 ) -> Result<Done, Refusal>
-    requires { G.is_game game.now }
-    ensures { Agrees kind_of (shown history.now (record { text = view text.now; rules = G.rules game.now })) None result }
+    requires { G.is_game game }
+    ensures { Agrees kind_of (shown history.now (record { text = view text.now; rules = G.rules game })) None result }
 {
-    let state = walk(alloc, game, history)?;
+    let state = walk(alloc, &game, history)?;
     let mut out = Text::new(alloc);
     title(alloc, text, &mut out)?;
-    block(alloc, game, &state, &mut out)?;
+    block(alloc, &game, &state, &mut out)?;
     Ok(Done { out, same: true })
 }
 
@@ -52,7 +52,7 @@ fn restore_bytes(alloc: Global, bytes: &[u8]) -> Result<Done, Refusal>
 {
     let saved = read_play(alloc, bytes)?;
     let game = load_named(alloc, &saved.game)?;
-    show_state(alloc, &game, &saved.game, saved.history.items())
+    show_state(alloc, game, &saved.game, saved.history.items())
 }
 
 /// `restore FILE`: the state of a saved play.

@@ -18,14 +18,14 @@ use std::alloc::Global;
 /// The saved file of a play.
 fn save_play<G: Game>(
     alloc: Global,
-    game: &G,
+    game: G,
     text: &GameText,
     history: &[u32],
 ) -> Result<Done, Refusal>
-    requires { G.is_game game.now }
-    ensures { Agrees kind_of (saved history.now (record { text = view text.now; rules = G.rules game.now })) None result }
+    requires { G.is_game game }
+    ensures { Agrees kind_of (saved history.now (record { text = view text.now; rules = G.rules game })) None result }
 {
-    let _ = walk(alloc, game, history)?;
+    let _ = walk(alloc, &game, history)?;
     let mut out = Text::new(alloc);
     write_saved(alloc, text, history, &mut out)?;
     Ok(Done { out, same: true })
@@ -37,7 +37,7 @@ fn save_history(alloc: Global, game: &[u8], history: &[u32]) -> Result<Done, Ref
 {
     let text = read_word(alloc, game)?;
     let game = load_named(alloc, &text)?;
-    save_play(alloc, &game, &text, history)
+    save_play(alloc, game, &text, history)
 }
 
 /// `save GAME LIST`: the saved file of a play, which `restore` reads.

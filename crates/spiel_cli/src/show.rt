@@ -14,12 +14,12 @@ use spiel_string::GameText;
 use std::alloc::Global;
 
 /// The fact lines of a game.
-fn tell<G: Game>(alloc: Global, game: &G, text: &GameText) -> Result<Done, Refusal>
-    requires { G.is_game game.now }
-    ensures { Agrees kind_of (told (record { text = view text.now; rules = G.rules game.now })) None result }
+fn tell<G: Game>(alloc: Global, game: G, text: &GameText) -> Result<Done, Refusal>
+    requires { G.is_game game }
+    ensures { Agrees kind_of (told (record { text = view text.now; rules = G.rules game })) None result }
 {
     let mut out = Text::new(alloc);
-    facts(alloc, game, text, &mut out)?;
+    facts(alloc, &game, text, &mut out)?;
     Ok(Done { out, same: true })
 }
 
@@ -29,5 +29,5 @@ pub fn show(alloc: Global, game: &[u8]) -> Result<Done, Refusal>
 {
     let text = read_word(alloc, game)?;
     let game = load_named(alloc, &text)?;
-    tell(alloc, &game, &text)
+    tell(alloc, game, &text)
 }

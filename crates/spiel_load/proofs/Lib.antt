@@ -1,7 +1,10 @@
 pub mod Cards
 pub mod Dice
 pub mod Finding
+pub mod Inner
 pub mod Loaded
+pub mod Nested
+pub mod Parts
 pub mod Ranges
 pub mod Taken
 pub mod Wrongs

@@ -18,27 +18,10 @@ use Rattle.spiel_load.specs.declared.given.Wrong.{Wrong}
 use Rattle.spiel_load.specs.declared.given.Wrong.TheVariants.{Unknown, Bad}
 use Rattle.spiel_load.specs.declared.table.Known.{Known}
 
-given_again : (given : List (List ℕ × Value)) → given_of (of_string.params_of given) ≡ given
-given_again [] = refl
-given_again (pair ∷ given) = ap (λ rest. pair ∷ rest) (given_again given)
-
 -- the parameters that the code looks at are those of the table
 pub wrong_in_table : (known : Known) (params : List Param) (given : List (List ℕ × Value)) → params ≡ params_of known → (r found : Option Wrong) → r ≡ found
     → ((name : List ℕ) → option_map (fault_of name) r ≡ wrong_with name params given) → (name : List ℕ) → wrong_with name (params_of known) given ≡ option_map (fault_of name) found
 wrong_in_table known params given is r found same e name = sym (ap (λ ps. wrong_with name ps given) is) ∙ sym (e name) ∙ ap (option_map (fault_of name)) same
-
--- a string whose game is in the table
-pub named_is : (text : GameText) (name : List ℕ) (pairs : List (List ℕ × ParamValue)) → name ≡ text.name → pairs ≡ text.params
-    → (r : Option Known) (known : Known) → r ≡ known_of name → r ≡ Some known → (wrong : Option LoadFault) → wrong_with name (params_of known) (map pair_view pairs) ≡ wrong
-    → named_game (view text) ≡ unless_wrong (rules_of known (map pair_view pairs)) wrong
-unfolding named_game
-named_is text name pairs n p r known e is wrong w =
-    let given = map pair_view pairs in
-    sym (ap (λ name. known_rules name (given_of (of_string.params_of (map pair_view text.params))) (known_of name)) n)
-    ∙ ap (λ given. known_rules name given (known_of name)) (given_again (map pair_view text.params))
-    ∙ sym (ap (λ ps. known_rules name (map pair_view ps) (known_of name)) p)
-    ∙ ap (known_rules name given) (sym e ∙ is)
-    ∙ ap (unless_wrong (rules_of known given)) w
 
 pub fault_told : (answer : Result Rules LoadFault) (name : List ℕ) (wrong : Wrong) (fault : LoadFault) → fault ≡ fault_of name wrong → answer ≡ Err (fault_of name wrong) → IsComputed answer fault
 fault_told answer name wrong fault is e = subst (IsComputed answer) (sym is) (go wrong e)

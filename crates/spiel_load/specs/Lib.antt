@@ -1,8 +1,10 @@
 pub mod Base
 pub mod Given
+pub mod Histories
 pub mod Making
 pub mod Named
 pub mod Params
 pub mod Settings
 pub mod Table
+pub mod Transforms
 pub mod Wrong

@@ -1,10 +1,11 @@
 -- What a game takes for a parameter: the value that is given for its key, or else the one that stands in the table.
-use Rattle.std.specs.Prelude.{ℕ, pos, Bool, false, List, [], Option, Some, None}
+use Rattle.std.specs.Prelude.{ℕ, pos, Bool, false, List, [], Option, Some, None, unwrap_or}
 use Rattle.std.specs.List.{find}
 use Rattle.std.specs.Option.{option_map}
 use Rattle.std.specs.Str.{bytes_eq}
 use Rattle.spiel_string.specs.Game.{Value, int, flag, word, inner}
 use Rattle.spiel_load.specs.Given.{Given}
+use Rattle.spiel_load.specs.Histories.{history_in}
 use Rattle.spiel_load.specs.Params.{Param, param_at}
 
 -- the value that is given for the key
@@ -45,7 +46,12 @@ abbrev pub word_of : Option Value → List ℕ
 word_of (Some (word w)) = w
 word_of value = []
 
--- the number, the flag or the word that a game takes for the key
+-- the history that a value is; any other value is read as the empty one
+abbrev pub history_of : Option Value → List ℕ
+history_of None = []
+history_of (Some value) = unwrap_or (history_in value) []
+
+-- the number, the flag, the word or the history that a game takes for the key
 abbrev pub number_at : List Param → Given → List ℕ → ℕ
 number_at params given key = number_of (value_at params given key)
 
@@ -54,3 +60,6 @@ flag_at params given key = flag_of (value_at params given key)
 
 abbrev pub word_at : List Param → Given → List ℕ → List ℕ
 word_at params given key = word_of (value_at params given key)
+
+abbrev pub history_at : List Param → Given → List ℕ → List ℕ
+history_at params given key = history_of (value_at params given key)

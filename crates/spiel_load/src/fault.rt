@@ -1,14 +1,20 @@
+use spiel_api::WalkFault;
 use spiel_frac::{NoMemory, Text};
+use spiel_layers::RepeatFault;
 use std::fmt;
 use thiserror::Error;
 
-/// Why a game string names no game. The first fault that holds, in this order, is the one that is
-/// answered.
+/// Why a game string names no game. The first fault that holds is the one that is answered: of the
+/// outermost game first, and in this order, but that a transform's inner game with all its faults comes
+/// before `Repeat` and `Start`.
 #[derive(Debug, Drop, Error)]
 pub enum LoadFault {
     /// No game has this name.
     #[error("unknown game {}", Shown(.name))]
     UnknownGame { name: Text },
+    /// The name is that of a fourth transform.
+    #[error("more than three transforms")]
+    TooDeep,
     /// The game of this name has no parameter of this key. It is the first such key.
     #[error("unknown parameter {} of {}", Shown(.key), Shown(.name))]
     UnknownParam { name: Text, key: Text },
@@ -16,6 +22,12 @@ pub enum LoadFault {
     /// key; or else the parameter has to be given and isn't.
     #[error("bad parameter {} of {}", Shown(.key), Shown(.name))]
     BadParam { name: Text, key: Text },
+    /// The stage game can't be played so often.
+    #[error("{0}")]
+    Repeat(RepeatFault),
+    /// The game doesn't begin with the numbers behind which it should start.
+    #[error("start: {0}")]
+    Start(WalkFault),
     /// Memory ran out.
     #[error("no memory")]
     NoMemory,

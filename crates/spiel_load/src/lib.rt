@@ -4,13 +4,16 @@
 mod base;
 mod fault;
 mod given;
+mod histories;
 mod loading;
 mod making;
+mod nesting;
 mod params;
 mod settings;
 mod table;
 #[cfg(test)]
 mod tests;
+mod transforms;
 
 pub use base::{Base, BaseState};
 pub use fault::LoadFault;

@@ -7,6 +7,7 @@ ghost use Rattle.spiel_string.specs.View.{value_view};
 ghost use Rattle.spiel_string.specs.Game.{int};
 ghost use Rattle.spiel_load.specs.Params.{in_range, param_at, param_view, range_view, whole};
 
+use crate::histories::is_history;
 use spiel_string::ParamValue;
 
 /// The values that a parameter may have.
@@ -18,6 +19,10 @@ pub enum Range {
     Flag,
     /// One of these words.
     OneOf(&'static [&'static [u8]]),
+    /// A game, or a word, which is the name of one.
+    Game,
+    /// A history: one number, or numbers with semicolons between them.
+    History,
 }
 
 /// A value that is no game: one that is given, or one that stands in the table.
@@ -76,6 +81,8 @@ pub fn is_in_range(range: Range, value: &ParamValue) -> bool
         (Range::Whole { least, most }, ParamValue::Int(number)) => is_within(least, most, *number),
         (Range::Flag, ParamValue::Flag(_)) => true,
         (Range::OneOf(words), ParamValue::Word(text)) => is_among(words, text.bytes()),
+        (Range::Game, ParamValue::Word(_) | ParamValue::Game(_)) => true,
+        (Range::History, value) => is_history(value),
         _ => false,
     }
 }

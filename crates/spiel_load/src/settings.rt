@@ -1,14 +1,16 @@
 //! What a game takes for its parameters: what is given, and else what stands in the table.
-ghost use Rattle.std.specs.Prelude.{◌≡◌, map, Some};
+ghost use Rattle.std.specs.Prelude.{◌≡◌, map, IfOk, Some};
 ghost use Rattle.std.specs.Option.{option_map};
 ghost use Rattle.spiel_string.specs.View.{pair_view, value_view};
 ghost use Rattle.spiel_load.specs.Params.{param_view, setting_view};
-ghost use Rattle.spiel_load.specs.Settings.{default_at, flag_at, flag_of, no_game, number_at, number_of, value_at, word_at, word_of};
+ghost use Rattle.spiel_load.specs.Settings.{default_at, flag_at, flag_of, history_at, no_game, number_at, number_of, value_at, word_at, word_of};
 
 use crate::given::find_pair;
+use crate::histories::history_of;
 use crate::params::{Param, Setting, find_param};
-use spiel_frac::Text;
+use spiel_frac::{List, NoMemory, Text};
 use spiel_string::ParamValue;
+use std::alloc::Global;
 
 // A value that is given, unless it is a game.
 fn setting_of(value: &ParamValue) -> Option<Setting>
@@ -99,4 +101,17 @@ pub fn word_at<'a>(params: &[Param], given: &'a [(Text, ParamValue)], key: &[u8]
     ensures { result.now ≡ word_at (map param_view params.now) (map pair_view given.now) key.now }
 {
     word_of(setting_at(params, given, key))
+}
+
+/// The history that a game with these parameters takes for the key, or the empty one where it takes no
+/// history.
+pub fn history_at(
+    alloc: Global,
+    params: &[Param],
+    given: &[(Text, ParamValue)],
+    key: &[u8],
+) -> Result<List<u32>, NoMemory>
+    ensures { IfOk result (λ history. history ≡ history_at (map param_view params.now) (map pair_view given.now) key.now) }
+{
+    history_of(alloc, setting_at(params, given, key))
 }

@@ -1,16 +1,16 @@
 //! What game strings name, from the games' tables of parameters.
 ghost use Rattle.std.specs.Prelude.{IfOk, IfSome};
-ghost use Rattle.spiel_load.specs.Base.{IsBaseGame};
 
 use crate::{Any, LoadFault, load};
 use spiel_api::{Game, Place, WalkFault, walk};
 use spiel_frac::{NoMemory, Text};
+use spiel_layers::RepeatFault;
 use spiel_string::read_game;
 use std::alloc::Global;
 use std::test::Fail;
 
 // Strings that name a game, with its greatest return and how many outcomes or moves it begins with.
-const NAMED: [(&str, i64, u32); 30] = [
+const NAMED: [(&str, i64, u32); 46] = [
     ("kuhn_poker", 2, 3),
     ("kuhn_poker()", 2, 3),
     ("kuhn_poker(players=2)", 2, 3),
@@ -53,11 +53,46 @@ const NAMED: [(&str, i64, u32); 30] = [
     ("matrix_pd", 10, 2),
     ("matrix_bos", 3, 2),
     (" matrix_bos ( ) ", 3, 2),
+    ("misere(game=kuhn_poker)", 2, 3),
+    ("misere(game=kuhn_poker())", 2, 3),
+    ("misere(game=liars_dice(dice_sides=4))", 1, 4),
+    ("turn_based_simultaneous_game(game=matrix_pd())", 10, 2),
+    (
+        "repeated_game(num_repetitions=1,stage_game=matrix_mp)",
+        1,
+        2,
+    ),
+    (
+        "repeated_game(num_repetitions=3,stage_game=matrix_pd())",
+        30,
+        2,
+    ),
+    (
+        "repeated_game(stage_game=matrix_rps(),num_repetitions=0512)",
+        512,
+        3,
+    ),
+    ("start_at(game=kuhn_poker)", 2, 3),
+    ("start_at(game=kuhn_poker,history=0)", 2, 2),
+    ("start_at(game=kuhn_poker(),history=2;0)", 2, 2),
+    ("start_at(history=4;0,game=tic_tac_toe)", 1, 7),
+    // the one who moves next is the other
+    ("start_at(game=tic_tac_toe,history=4)", 1, 0),
+    // behind a whole play there is nothing to choose
+    ("start_at(game=tic_tac_toe,history=0;3;1;4;2)", 1, 0),
+    ("start_at(game=matrix_bos,history=0;1)", 3, 0),
+    // three transforms
+    ("misere(game=misere(game=misere(game=kuhn_poker())))", 2, 3),
+    (
+        "start_at(game=turn_based_simultaneous_game(game=repeated_game(num_repetitions=2,stage_game=matrix_mp)),history=0;1)",
+        2,
+        2,
+    ),
 ];
 
 // Strings that name a game, numbers of a play of it, and what the one whose choice is next sees then, or
 // nothing where chance is next.
-const SEEN: [(&str, &[u32], &str); 10] = [
+const SEEN: [(&str, &[u32], &str); 17] = [
     ("goofspiel", &[], ""),
     ("goofspiel(num_cards=3)", &[1], "2"),
     ("goofspiel(points_order=random)", &[12, 0, 1], ""),
@@ -80,10 +115,39 @@ const SEEN: [(&str, &[u32], &str); 10] = [
     ),
     ("matrix_rps", &[], "start"),
     ("tic_tac_toe", &[4], "moves 4"),
+    // a whole number is a history of one number, however it is written
+    ("start_at(game=tic_tac_toe,history=007)", &[], "moves 7"),
+    ("start_at(game=tic_tac_toe,history=-0)", &[4], "moves 0 4"),
+    (
+        "start_at(game=tic_tac_toe,history=4;0;8)",
+        &[1],
+        "moves 4 0 8 1",
+    ),
+    (
+        "repeated_game(num_repetitions=2,stage_game=matrix_rps)",
+        &[],
+        "| start",
+    ),
+    (
+        "repeated_game(num_repetitions=2,stage_game=matrix_rps)",
+        &[0, 2],
+        "0 2 | start",
+    ),
+    // the transforms go round the game from the inside outwards
+    (
+        "start_at(game=repeated_game(num_repetitions=2,stage_game=matrix_rps),history=1;2)",
+        &[],
+        "1 2 | start",
+    ),
+    (
+        "repeated_game(num_repetitions=2,stage_game=start_at(game=matrix_rps))",
+        &[2, 2],
+        "2 2 | start",
+    ),
 ];
 
 // Strings with a name that no game has.
-const UNKNOWN_GAMES: [(&str, &str); 10] = [
+const UNKNOWN_GAMES: [(&str, &str); 18] = [
     ("kuhn", "kuhn"),
     ("kuhn_poker_", "kuhn_poker_"),
     ("liars_dic(numdice=1)", "liars_dic"),
@@ -95,10 +159,20 @@ const UNKNOWN_GAMES: [(&str, &str); 10] = [
     ("matrix_sh", "matrix_sh"),
     ("goofspiel13", "goofspiel13"),
     ("goof(num_cards=x)", "goof"),
+    ("misere(game=chess)", "chess"),
+    ("misere(game=chess(players=3))", "chess"),
+    // a word that no name can be
+    ("misere(game=2b)", "2b"),
+    ("misere(game=true())", "true"),
+    ("misere(game=misere(game=misere(game=chess)))", "chess"),
+    ("miser(game=kuhn_poker)", "miser"),
+    // before what the transform makes of the game
+    ("repeated_game(num_repetitions=0,stage_game=chess)", "chess"),
+    ("start_at(game=chess,history=9)", "chess"),
 ];
 
 // Strings with a key that the game hasn't.
-const UNKNOWN_KEYS: [(&str, &str, &str); 15] = [
+const UNKNOWN_KEYS: [(&str, &str, &str); 21] = [
     ("kuhn_poker(a=1)", "kuhn_poker", "a"),
     ("kuhn_poker(player=2)", "kuhn_poker", "player"),
     // before a bad value, wherever it stands
@@ -120,10 +194,21 @@ const UNKNOWN_KEYS: [(&str, &str, &str); 15] = [
         "goofspiel",
         "returns_types",
     ),
+    ("misere(games=kuhn_poker)", "misere", "games"),
+    ("misere(game=kuhn_poker(a=1))", "kuhn_poker", "a"),
+    ("start_at(game=kuhn_poker,prefix=0)", "start_at", "prefix"),
+    ("repeated_game(game=matrix_mp)", "repeated_game", "game"),
+    // the outer game before the inner one
+    ("misere(game=chess,z=1)", "misere", "z"),
+    (
+        "misere(game=misere(game=misere(game=misere())),players=2)",
+        "misere",
+        "players",
+    ),
 ];
 
 // Strings with a value that isn't one that the parameter may have.
-const BAD_VALUES: [(&str, &str, &str); 20] = [
+const BAD_VALUES: [(&str, &str, &str); 25] = [
     ("kuhn_poker(players=3)", "kuhn_poker", "players"),
     ("kuhn_poker(players=1)", "kuhn_poker", "players"),
     ("kuhn_poker(players=-2)", "kuhn_poker", "players"),
@@ -158,6 +243,162 @@ const BAD_VALUES: [(&str, &str, &str); 20] = [
         "dice_sides",
     ),
     ("liars_dice(players=1,numdice=9)", "liars_dice", "numdice"),
+    // a game has to be given
+    ("misere", "misere", "game"),
+    ("misere(game=1)", "misere", "game"),
+    ("misere(game=True)", "misere", "game"),
+    (
+        "misere(game=kuhn_poker(players=3))",
+        "kuhn_poker",
+        "players",
+    ),
+    (
+        "turn_based_simultaneous_game()",
+        "turn_based_simultaneous_game",
+        "game",
+    ),
+];
+
+// The same of the transforms that take more than a game, with the key whose value is bad or missing.
+const BAD_IN_TRANSFORMS: [(&str, &str, &str); 18] = [
+    ("repeated_game()", "repeated_game", "num_repetitions"),
+    (
+        "repeated_game(stage_game=matrix_mp)",
+        "repeated_game",
+        "num_repetitions",
+    ),
+    (
+        "repeated_game(num_repetitions=2)",
+        "repeated_game",
+        "stage_game",
+    ),
+    (
+        "repeated_game(num_repetitions=two,stage_game=1)",
+        "repeated_game",
+        "num_repetitions",
+    ),
+    // a given key with a bad value comes before one that is missing
+    ("repeated_game(stage_game=1)", "repeated_game", "stage_game"),
+    (
+        "repeated_game(num_repetitions=-1,stage_game=chess)",
+        "repeated_game",
+        "num_repetitions",
+    ),
+    (
+        "repeated_game(num_repetitions=4294967296,stage_game=matrix_mp)",
+        "repeated_game",
+        "num_repetitions",
+    ),
+    (
+        "repeated_game(num_repetitions=x(),stage_game=matrix_mp)",
+        "repeated_game",
+        "num_repetitions",
+    ),
+    ("start_at(history=0;1)", "start_at", "game"),
+    ("start_at(game=chess,history=1;02)", "start_at", "history"),
+    ("start_at(game=kuhn_poker,history=;)", "start_at", "history"),
+    (
+        "start_at(game=kuhn_poker,history=0;)",
+        "start_at",
+        "history",
+    ),
+    (
+        "start_at(game=kuhn_poker,history=0:1)",
+        "start_at",
+        "history",
+    ),
+    (
+        "start_at(game=kuhn_poker,history=-1)",
+        "start_at",
+        "history",
+    ),
+    (
+        "start_at(game=kuhn_poker,history=True)",
+        "start_at",
+        "history",
+    ),
+    (
+        "start_at(game=kuhn_poker,history=x())",
+        "start_at",
+        "history",
+    ),
+    (
+        "start_at(game=kuhn_poker,history=4294967296)",
+        "start_at",
+        "history",
+    ),
+    (
+        "start_at(game=kuhn_poker,history=0;4294967296)",
+        "start_at",
+        "history",
+    ),
+];
+
+// Strings with a fourth transform.
+const TOO_DEEP: [&str; 4] = [
+    "misere(game=misere(game=misere(game=misere(game=kuhn_poker))))",
+    // before what is given to it
+    "misere(game=misere(game=misere(game=start_at(x=1))))",
+    "misere(game=misere(game=misere(game=misere)))",
+    "repeated_game(num_repetitions=0,stage_game=misere(game=misere(game=misere(game=chess))))",
+];
+
+// Strings whose stage isn't repeated so often.
+const NOT_REPEATED: [(&str, RepeatFault); 6] = [
+    (
+        "repeated_game(num_repetitions=2,stage_game=kuhn_poker())",
+        RepeatFault::NotOneShot,
+    ),
+    (
+        "repeated_game(num_repetitions=0,stage_game=tic_tac_toe)",
+        RepeatFault::NotOneShot,
+    ),
+    // behind a joint step a game is one-shot no more
+    (
+        "repeated_game(num_repetitions=2,stage_game=start_at(game=matrix_mp,history=0;0))",
+        RepeatFault::NotOneShot,
+    ),
+    (
+        "repeated_game(num_repetitions=0,stage_game=matrix_pd())",
+        RepeatFault::Repeats,
+    ),
+    (
+        "repeated_game(num_repetitions=513,stage_game=matrix_pd())",
+        RepeatFault::Repeats,
+    ),
+    (
+        "misere(game=repeated_game(num_repetitions=4294967295,stage_game=matrix_mp))",
+        RepeatFault::Repeats,
+    ),
+];
+
+// Strings with a game that doesn't begin with such numbers.
+const NOT_STARTED: [(&str, WalkFault); 6] = [
+    (
+        "start_at(game=kuhn_poker,history=0;0)",
+        WalkFault::Illegal { at: 1 },
+    ),
+    (
+        "start_at(game=kuhn_poker,history=007)",
+        WalkFault::Illegal { at: 0 },
+    ),
+    (
+        "start_at(game=kuhn_poker,history=4294967295;0)",
+        WalkFault::Illegal { at: 0 },
+    ),
+    // no number is legal after the end
+    (
+        "start_at(game=matrix_mp,history=0;1;0)",
+        WalkFault::Illegal { at: 2 },
+    ),
+    (
+        "start_at(game=matrix_mp,history=1)",
+        WalkFault::Unfinished { at: 1 },
+    ),
+    (
+        "misere(game=start_at(game=goofspiel(points_order=ascending),history=0))",
+        WalkFault::Unfinished { at: 1 },
+    ),
 ];
 
 // The same of goofspiel, whose parameters are of each kind: its key whose value is bad.
@@ -214,7 +455,7 @@ fn seen<G: Game>(alloc: Global, game: &G, actions: &[u32]) -> Result<Text, WalkF
 
 // What a string names, or its fault, where it is a game string.
 fn loaded(alloc: Global, text: &[u8]) -> Option<Result<Any, LoadFault>>
-    ensures { IfSome result (λ answer. IfOk answer IsBaseGame) }
+    ensures { IfSome result (λ answer. IfOk answer ⟦<Any as Game>⟧.is_game) }
 {
     let game = read_game(alloc, text).ok()?;
     Some(load(alloc, &game))
@@ -268,6 +509,24 @@ fn is_bad_value(alloc: Global, text: &[u8], name: &[u8], key: &[u8]) -> bool {
                 },
             ),
         ) => told.bytes() == name && at.bytes() == key,
+        _ => false,
+    }
+}
+
+fn is_too_deep(alloc: Global, text: &[u8]) -> bool {
+    matches!(loaded(alloc, text), Some(Err(LoadFault::TooDeep)))
+}
+
+fn is_not_repeated(alloc: Global, text: &[u8], fault: RepeatFault) -> bool {
+    match loaded(alloc, text) {
+        Some(Err(LoadFault::Repeat(told))) => told == fault,
+        _ => false,
+    }
+}
+
+fn is_not_started(alloc: Global, text: &[u8], fault: WalkFault) -> bool {
+    match loaded(alloc, text) {
+        Some(Err(LoadFault::Start(told))) => told == fault,
         _ => false,
     }
 }
@@ -329,6 +588,35 @@ fn each_kind_of_value_is_looked_at(rt: HostRuntime) {
     }
 }
 
+#[test]
+fn transforms_look_at_their_own_values(rt: HostRuntime) {
+    for (text, name, key) in BAD_IN_TRANSFORMS {
+        assert!(rt;
+            is_bad_value(rt.alloc(), text.as_bytes(), name.as_bytes(), key.as_bytes()),
+            "{text}"
+        );
+    }
+}
+
+#[test]
+fn transforms_have_faults_of_their_own(rt: HostRuntime) {
+    for text in TOO_DEEP {
+        assert!(rt; is_too_deep(rt.alloc(), text.as_bytes()), "{text}");
+    }
+    for (text, fault) in NOT_REPEATED {
+        assert!(rt;
+            is_not_repeated(rt.alloc(), text.as_bytes(), fault),
+            "{text}"
+        );
+    }
+    for (text, fault) in NOT_STARTED {
+        assert!(rt;
+            is_not_started(rt.alloc(), text.as_bytes(), fault),
+            "{text}"
+        );
+    }
+}
+
 fn text(alloc: Global, bytes: &[u8]) -> Result<Text, NoMemory> {
     let mut text = Text::new(alloc);
     text.push(bytes)?;
@@ -358,6 +646,15 @@ fn faults_have_texts(rt: HostRuntime) -> Result<(), Fail> {
                 key: text(alloc, b"numdice")?,
             },
             "bad parameter numdice of liars_dice",
+        ),
+        (LoadFault::TooDeep, "more than three transforms"),
+        (
+            LoadFault::Repeat(RepeatFault::Repeats),
+            "bad number of repetitions",
+        ),
+        (
+            LoadFault::Start(WalkFault::Illegal { at: 1 }),
+            "start: illegal action at 1",
         ),
         (LoadFault::NoMemory, "no memory"),
     ];
