@@ -4,3 +4,4 @@ pub mod Place
 pub mod Laws
 pub mod States
 pub mod Walks
+pub mod Deck

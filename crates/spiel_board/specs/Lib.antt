@@ -2,4 +2,3 @@ pub mod TicTacToe
 pub mod TicTacToeState
 pub mod TicTacToePlays
 pub mod TicTacToeLaws
-pub mod Inductions

@@ -13,7 +13,7 @@ use Rattle.spiel_api.specs.Walks.{is_in}
 use Rattle.spiel_api.proofs.LawLemmas.{All-computed, IsStrictlyIncreasing-computed}
 use Rattle.spiel_board.specs.TicTacToe.{cells, free_cells, next_player, turn_of, cells_for, tic_tac_toe_legal, tic_tac_toe_rules}
 use Rattle.spiel_board.specs.TicTacToeState.{marks}
-use Rattle.spiel_board.specs.Inductions.{of_plays}
+use Rattle.spiel_api.proofs.Inductions.{of_plays}
 
 pub length-cells : length cells ≡ 9
 unfolding cells

@@ -3,5 +3,4 @@ pub mod Completion
 pub mod Games
 pub mod Histories
 pub mod Judgements
-pub mod Parts
 pub mod Trees

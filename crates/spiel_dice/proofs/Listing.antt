@@ -1,23 +1,12 @@
 -- Numbers that are listed in a text, and texts that were added in part.
-use Rattle.std.proofs.Common.{◌≡◌, ℕ, suc, ◌+◌, ◌<◌, Bool, false, List, [], ◌∷◌, ◌++◌, length, take, drop, map, get_or, cond, Result, Ok, Err, if◌then◌else◌, ◌==◌, refl, ap, sym, subst, ◌∙◌, arith, append_assoc}
+use Rattle.std.proofs.Common.{◌≡◌, ℕ, ◌+◌, ◌<◌, List, [], ◌∷◌, ◌++◌, length, take, drop, map, get_or, Result, Ok, Err, if◌then◌else◌, ◌==◌, refl, ap, sym, subst, ◌∙◌, append_assoc}
 use Rattle.std.specs.List.{join_with_byte}
 use Rattle.std.specs.Fmt.{decimal}
-use Rattle.std.proofs.lemmas.Bool.{ne_eqb}
-use Rattle.std.proofs.lemmas.List.{length-map, length-take-le, map_more, append-nil, map-append, take-append-drop}
+use Rattle.std.proofs.lemmas.List.{append-nil, map-append, take-append-drop}
 use Rattle.spiel_frac.specs.declared.memory.NoMemory.{NoMemory}
 use Rattle.spiel_frac.specs.Adding.{Adds, AddsPart}
+use Rattle.spiel_frac.proofs.Listings.{decimals_joined}
 use Rattle.spiel_dice.specs.LiarsDice.{listed}
-
--- one text more is behind the separator, unless it is the first
-join_with_byte-push : (c : ℕ) (texts : List (List ℕ)) (text : List ℕ) → join_with_byte c (texts ++ text ∷ []) ≡ join_with_byte c texts ++ cond (length texts == 0) text (c ∷ text)
-join_with_byte-push c [] text = refl
-join_with_byte-push c (first ∷ []) text = refl
-join_with_byte-push c (first ∷ next ∷ texts) text =
-    let later : (n : ℕ) → (suc n == 0) ≡ false = λ n. ne_eqb (suc n) 0 (λ e. omega (arith, e)) in
-    let behind = λ (b : Bool). join_with_byte c (next ∷ texts) ++ cond b text (c ∷ text) in
-    ap (λ (rest : List ℕ). first ++ c ∷ rest) (join_with_byte-push c (next ∷ texts) text ∙ ap behind (later (length texts)))
-    ∙ sym (append_assoc first (c ∷ join_with_byte c (next ∷ texts)) (c ∷ text))
-    ∙ ap (λ (b : Bool). join_with_byte c (first ∷ next ∷ texts) ++ cond b text (c ∷ text)) (sym (later (suc (length texts))))
 
 -- the first texts stand in front
 record HasFront (c : ℕ) (front all : List (List ℕ)) : Type 0 where
@@ -34,14 +23,6 @@ has_front c (x ∷ y ∷ front) back =
       rest = later.rest;
       whole = ap (λ (text : List ℕ). x ++ c ∷ text) later.whole ∙ sym (append_assoc x (c ∷ join_with_byte c (y ∷ front)) later.rest);
     }
-
--- one number more
-pub listed-take_more : (c : ℕ) (numbers : List ℕ) (k : ℕ) → k < length numbers → listed c (take (k + 1) numbers) ≡ listed c (take k numbers) ++ (if k == 0 then decimal (get_or numbers k 0) else c ∷ decimal (get_or numbers k 0))
-listed-take_more c numbers k l =
-    let texts = map decimal (take k numbers) in
-    let text = decimal (get_or numbers k 0) in
-    let many : length texts ≡ k = length-map (take k numbers) decimal ∙ length-take-le k numbers (omega arith) in
-    ap (join_with_byte c) (map_more decimal numbers k 0 l) ∙ join_with_byte-push c texts text ∙ ap (λ n. join_with_byte c texts ++ cond (n == 0) text (c ∷ text)) many
 
 -- a part of a text is a part of a longer one
 pub part_of_front : (old new a b : List ℕ) → AddsPart old new a → AddsPart old new (a ++ b)
@@ -75,5 +56,5 @@ part_listed c numbers k old now new l before adds =
     let all = has_front c (map decimal (take (k + 1) numbers)) (map decimal (drop (k + 1) numbers)) in
     let whole : listed c numbers ≡ listed c (take k numbers) ++ next ++ all.rest =
     ap (listed c) (sym (take-append-drop (k + 1) numbers)) ∙ ap (join_with_byte c) (map-append decimal (take (k + 1) numbers) (drop (k + 1) numbers)) ∙ all.whole
-    ∙ ap (λ (text : List ℕ). text ++ all.rest) (listed-take_more c numbers k l) in
+    ∙ ap (λ (text : List ℕ). text ++ all.rest) (decimals_joined c numbers k l) in
     subst (AddsPart old new) (sym whole) (part_of_front old new (listed c (take k numbers) ++ next) all.rest more)

@@ -16,7 +16,7 @@ use Rattle.spiel_api.specs.Rules.{next_at, next_of}
 use Rattle.spiel_api.specs.Plays.{IsPlay}
 use Rattle.spiel_dice.specs.LiarsDice.{between, liar, is_rolling, calls_of, last_of, turn_after, calls_after, numbers_after, numbers_for, faces_of, liars_dice_place, liars_dice_legal, liars_dice_weights, liars_dice_rules}
 use Rattle.spiel_dice.specs.LiarsDiceState.{IsWithinRange}
-use Rattle.spiel_dice.specs.Inductions.{of_plays}
+use Rattle.spiel_api.proofs.Inductions.{of_plays}
 
 -- numbers between two
 pub length-between : (low high : ℕ) → length (between low high) ≡ high - low

@@ -2,4 +2,3 @@ pub mod LiarsDice
 pub mod LiarsDiceState
 pub mod LiarsDicePlays
 pub mod LiarsDiceLaws
-pub mod Inductions

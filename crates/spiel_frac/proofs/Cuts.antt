@@ -1,12 +1,12 @@
--- What stands before the first of some bytes, and what behind it.
+-- What stands before the first of some bytes, and what behind it; and what stands between them.
 use Rattle.std.proofs.Common.{◌≡◌, ℕ, zero, suc, ◌+◌, ◌<◌, ◌≤◌, Bool, true, false, cond, eqb, List, [], ◌∷◌, ◌++◌, length, take, drop, Option, Some, None, refl, sym, ap, ◌∙◌, inl, inr, arith, add-one}
 use Rattle.std.specs.Prelude.{not, position}
 use Rattle.std.specs.Char.{is_ascii_digit}
-use Rattle.std.specs.List.{between, list_all, prefix_len}
+use Rattle.std.specs.List.{between, list_all, onto_first, prefix_len}
 use Rattle.std.proofs.lemmas.Bool.{and_parts, ltb-true, ltb-false, true≢false}
 use Rattle.std.proofs.lemmas.Bool.Decides.{eqb_tells}
 use Rattle.std.proofs.lemmas.Slice.{between_to_end}
-use Rattle.spiel_frac.specs.Reading.{cut, with_front}
+use Rattle.spiel_frac.specs.Cuts.{cut, parts_of, with_front}
 
 -- ---- by the place of the first
 
@@ -75,6 +75,33 @@ same_by byte mark h = elim (eqb_tells byte mark) [ inl e ↦ e.1 | inr e ↦ abs
 pub cut-IsCut : (mark : ℕ) (bytes : List ℕ) → IsCut mark bytes (cut mark bytes)
 cut-IsCut mark [] = tt
 cut-IsCut mark (byte ∷ bytes) = joined_by (eqb byte mark) mark byte bytes (same_by byte mark) (cut-IsCut mark bytes)
+
+-- ---- parts
+
+-- the part before the first of these bytes, and those behind it
+abbrev parts_by : ℕ → List ℕ → Option (List ℕ × List ℕ) → List (List ℕ)
+parts_by mark bytes None = bytes ∷ []
+parts_by mark bytes (Some sides) = sides.0 ∷ parts_of mark sides.1
+
+parts_front : (mark byte : ℕ) (bytes : List ℕ) (r : Option (List ℕ × List ℕ)) → onto_first byte (parts_by mark bytes r) ≡ parts_by mark (byte ∷ bytes) (with_front byte r)
+parts_front mark byte bytes None = refl
+parts_front mark byte bytes (Some sides) = refl
+
+parts_next : (hit : Bool) (mark byte : ℕ) (bytes : List ℕ) → parts_of mark bytes ≡ parts_by mark bytes (cut mark bytes)
+    → cond hit ([] ∷ parts_of mark bytes) (onto_first byte (parts_of mark bytes)) ≡ parts_by mark (byte ∷ bytes) (cond hit (Some ([], bytes)) (with_front byte (cut mark bytes)))
+parts_next true mark byte bytes e = refl
+parts_next false mark byte bytes e = ap (onto_first byte) e ∙ parts_front mark byte bytes (cut mark bytes)
+
+parts_are : (mark : ℕ) (bytes : List ℕ) → parts_of mark bytes ≡ parts_by mark bytes (cut mark bytes)
+unfolding parts_of
+parts_are mark [] = refl
+parts_are mark (byte ∷ bytes) = parts_next (eqb byte mark) mark byte bytes (parts_are mark bytes)
+
+pub parts_uncut : (mark : ℕ) (bytes : List ℕ) → cut mark bytes ≡ None → parts_of mark bytes ≡ bytes ∷ []
+parts_uncut mark bytes e = parts_are mark bytes ∙ ap (parts_by mark bytes) e
+
+pub parts_cut : (mark : ℕ) (bytes before behind : List ℕ) → cut mark bytes ≡ Some (before, behind) → parts_of mark bytes ≡ before ∷ parts_of mark behind
+parts_cut mark bytes before behind e = parts_are mark bytes ∙ ap (parts_by mark bytes) e
 
 -- ---- digits in front
 

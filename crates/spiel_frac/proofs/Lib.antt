@@ -2,6 +2,7 @@ pub mod CommonMultiples
 pub mod Cuts
 pub mod DecimalNumbers
 pub mod Divisors
+pub mod Listings
 pub mod Numerals
 pub mod Pieces
 pub mod Quotients

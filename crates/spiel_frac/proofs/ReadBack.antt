@@ -9,7 +9,8 @@ use Rattle.std.proofs.lemmas.Bool.Decides.{eqb_tells}
 use Rattle.std.proofs.lemmas.List.{append-nil}
 use Rattle.spiel_frac.specs.Fraction.{Fraction, IsLowest, frac_text, greatest_common_divisor, lowest_terms, quotient, signed_as}
 use Rattle.spiel_frac.specs.Spelling.{Sign, absent, minus, whole, without, Size, ratio, scaled, Number, Spells, spell, is_size}
-use Rattle.spiel_frac.specs.Reading.{HasShortParts, behind_sign, cut, frac_of, reading, scaled_of, sign_of, size_by, size_fraction, size_of, value_or_shape}
+use Rattle.spiel_frac.specs.Cuts.{cut}
+use Rattle.spiel_frac.specs.Reading.{HasShortParts, behind_sign, frac_of, reading, scaled_of, sign_of, size_by, size_fraction, size_of, value_or_shape}
 use Rattle.spiel_frac.specs.Values.{fraction_of, is_minus, is_short, signed, size_value, value_of}
 use Rattle.spiel_frac.specs.declared.fault.BadNumber.{BadNumber}
 use Rattle.spiel_frac.specs.declared.fault.BadNumber.TheVariants.{Shape, Digits, ZeroDenominator}

@@ -6,7 +6,8 @@ use Rattle.std.specs.List.{list_all}
 use Rattle.std.proofs.lemmas.Bool.{and_parts, ltb-true}
 use Rattle.std.proofs.lemmas.List.{append-nil}
 use Rattle.spiel_frac.specs.Spelling.{Sign, absent, plus, minus, Mantissa, whole, pointed, Exponent, without, power, Size, ratio, scaled, Number, Spells, spell, spell_sign, spell_mantissa, spell_exponent, spell_size, are_digits, is_mantissa, is_exponent, is_size}
-use Rattle.spiel_frac.specs.Reading.{cut, with_front, sign_of, behind_sign, mantissa_by, mantissa_of, exponent_of, scaled_by, scaled_of, size_by, size_of, reading}
+use Rattle.spiel_frac.specs.Cuts.{cut, with_front}
+use Rattle.spiel_frac.specs.Reading.{sign_of, behind_sign, mantissa_by, mantissa_of, exponent_of, scaled_by, scaled_of, size_by, size_of, reading}
 use Rattle.spiel_frac.proofs.Cuts.{IsCut, cut-IsCut, same_by, with_fronts, no_mark, cut-digits}
 
 -- ---- the parts of a text spell it

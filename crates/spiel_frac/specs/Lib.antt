@@ -1,6 +1,8 @@
 pub mod Adding
+pub mod Cuts
 pub mod Faults
 pub mod Fraction
+pub mod Listed
 pub mod Multiples
 pub mod Numbers
 pub mod Packed

@@ -1,5 +1,6 @@
 -- What a text reads as: the number that it spells, found by its marks, and the value of that.
 use Rattle.std.specs.Prelude.{ℕ, ◌^◌, ◌<◌, ◌==◌, ◌||◌, Bool, true, false, List, [], ◌∷◌, if◌then◌else◌, Option, Some, None, Result, Err, unsigned_abs}
+use Rattle.spiel_frac.specs.Cuts.{cut}
 use Rattle.spiel_frac.specs.Fraction.{Fraction}
 use Rattle.spiel_frac.specs.Spelling.{Sign, absent, plus, minus, Mantissa, whole, pointed, Exponent, without, power, Size, ratio, scaled, Number, is_size}
 use Rattle.spiel_frac.specs.Values.{fraction_of, is_short, size_value, value_of}
@@ -7,16 +8,6 @@ use Rattle.spiel_frac.specs.declared.fault.BadNumber.{BadNumber}
 use Rattle.spiel_frac.specs.declared.fault.BadNumber.TheVariants.{Shape, Digits}
 
 -- ---- the parts of a text
-
--- a byte more in front
-abbrev pub with_front : ℕ → Option (List ℕ × List ℕ) → Option (List ℕ × List ℕ)
-with_front byte None = None
-with_front byte (Some parts) = Some (byte ∷ parts.0, parts.1)
-
--- what stands before the first of these bytes, and what behind it
-abbrev pub cut : ℕ → List ℕ → Option (List ℕ × List ℕ)
-cut mark [] = None
-cut mark (byte ∷ bytes) = if byte == mark then Some ([], bytes) else with_front byte (cut mark bytes)
 
 -- the sign that a text begins with
 abbrev pub sign_of : List ℕ → Sign

@@ -3,10 +3,12 @@
 //! want of memory.
 #![tactic(auto)]
 
+mod cutting;
 mod digits;
 mod fault;
 mod frac;
 mod list;
+mod listing;
 mod memory;
 mod multiples;
 mod numbers;
@@ -16,9 +18,11 @@ mod reading;
 mod tests;
 mod text;
 
+pub use cutting::cut;
 pub use fault::BadNumber;
 pub use frac::{Frac, write_frac, write_ratio};
 pub use list::List;
+pub use listing::{are_numbers, read_numbers};
 pub use memory::NoMemory;
 pub use multiples::lcm;
 pub use numbers::{read_number, write_number};

@@ -1,12 +1,13 @@
-ghost use Rattle.std.specs.Prelude.{◌≡◌, ◌↔◌, ◌<◌, ◌≤◌, ◌+◌, ◌-◌, ◌*◌, ◌^◌, ◌++◌, Bool, false, true, None, Some, Ok, MatchOption, length, nat_le, ◌&&◌, ◌==◌, position};
+ghost use Rattle.std.specs.Prelude.{◌≡◌, ◌↔◌, ◌<◌, ◌≤◌, ◌+◌, ◌-◌, ◌*◌, ◌^◌, ◌++◌, Bool, false, true, Ok, length, nat_le, ◌&&◌};
 ghost use Rattle.std.specs.List.{list_all};
 ghost use Rattle.std.specs.Char.{is_ascii_digit};
 ghost use Rattle.std.specs.Str.Parse.{digits_value};
 ghost use Rattle.spiel_frac.specs.Fraction.{Fraction, IsLowest, frac_text, most};
-ghost use Rattle.spiel_frac.specs.Reading.{HasShortParts, behind_sign, cut, exponent_of, frac_of, mantissa_of, scaled_of, sign_of, size_fraction};
+ghost use Rattle.spiel_frac.specs.Reading.{HasShortParts, behind_sign, exponent_of, frac_of, mantissa_of, scaled_of, sign_of, size_fraction};
 ghost use Rattle.spiel_frac.specs.Spelling.{Number, Spells, are_sides, before_point, behind_point, ratio, scaled};
 ghost use Rattle.spiel_frac.specs.Values.{fraction_of, is_minus, signed, times_tens, value_of};
 
+use crate::cutting::cut;
 use crate::digits::{all_digits, are_digits, short_value};
 use crate::fault::BadNumber;
 use crate::frac::Frac;
@@ -55,23 +56,6 @@ fn behind_sign(text: &[u8]) -> &[u8]
     match text {
         [b'+' | b'-', rest @ ..] => rest,
         _ => text,
-    }
-}
-
-// Where the byte stands first.
-fn place_of(bytes: &[u8], mark: u8) -> Option<usize>
-    ensures { result ≡ position (λ byte. byte == mark) bytes.now }
-{
-    bytes.iter().position(|byte| *byte == mark)
-}
-
-// What stands before the first of these bytes, and what behind it.
-fn cut(text: &[u8], mark: u8) -> Option<(&[u8], &[u8])>
-    ensures { MatchOption result (cut mark text.now ≡ None) (λ sides. cut mark text.now ≡ Some (sides.0.now, sides.1.now)) }
-{
-    match place_of(text, mark) {
-        Some(at) => Some((&text[..at], &text[at + 1..])),
-        None => None,
     }
 }
 

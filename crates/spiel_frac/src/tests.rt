@@ -1,6 +1,6 @@
 use crate::{
-    BadNumber, Frac, List, NoMemory, Packed, Text, lcm, read_frac, read_number, write_frac,
-    write_ratio,
+    BadNumber, Frac, List, NoMemory, Packed, Text, are_numbers, cut, lcm, read_frac, read_number,
+    read_numbers, write_frac, write_ratio,
 };
 use std::alloc::Global;
 use std::test::Fail;
@@ -362,6 +362,31 @@ fn texts_are_numbers(rt: HostRuntime) {
     for text in NUMBERLESS {
         assert!(rt; read_number(text.as_bytes()).is_none(), "{text}");
     }
+}
+
+#[test]
+fn texts_are_cut(rt: HostRuntime) {
+    assert_eq!(rt;
+        cut(b"a;b;c", b';'),
+        Some((b"a".as_slice(), b"b;c".as_slice()))
+    );
+    assert_eq!(rt; cut(b";", b';'), Some((b"".as_slice(), b"".as_slice())));
+    assert_eq!(rt; cut(b"abc", b';'), None);
+}
+
+#[test]
+fn numbers_are_listed(rt: HostRuntime) -> Result<(), Fail> {
+    let numbers = read_numbers(rt.alloc(), b"3,0,4294967295", b',')?.ok_or("none")?;
+    assert_eq!(rt; numbers.items(), [3, 0, 4_294_967_295].as_slice());
+    assert!(rt; are_numbers(b"3;0", b';'));
+    for word in ["", ",", "1,", ",1", "1,,2", "1;2", "1,02", "1,4294967296"] {
+        assert!(rt;
+            read_numbers(rt.alloc(), word.as_bytes(), b',')?.is_none(),
+            "{word}"
+        );
+        assert!(rt; !are_numbers(word.as_bytes(), b','), "{word}");
+    }
+    Ok(())
 }
 
 #[test]

@@ -7,7 +7,7 @@ use Rattle.spiel_api.specs.Rules.{Rules}
 use Rattle.spiel_api.specs.States.{IsJointChoice}
 use Rattle.spiel_goof.specs.declared.goofspiel.PointOrder.TheVariants.{Descending}
 use Rattle.spiel_goof.specs.declared.goofspiel.ReturnKind.TheVariants.{WinLoss}
-use Rattle.spiel_goof.specs.Deck.{cards_where}
+use Rattle.spiel_api.specs.Deck.{cards_where}
 use Rattle.spiel_goof.specs.Goofspiel.{parts, goofspiel_rules}
 
 abbrev three_cards : Rules

@@ -1,3 +1,4 @@
+pub mod CardSteps
 pub mod Points
 pub mod Numbers
 pub mod Growth

@@ -13,8 +13,8 @@ use Rattle.spiel_goof.specs.declared.turns.Stage.TheVariants.{Between, Shown, Bi
 use Rattle.spiel_goof.specs.declared.table.Table.{Table}
 use Rattle.spiel_goof.specs.declared.goofspiel.Goofspiel.{Goofspiel}
 use Rattle.spiel_goof.specs.declared.goofspiel.GoofspielState.{GoofspielState}
-use Rattle.spiel_goof.specs.Deck.{cards_left}
-use Rattle.spiel_goof.specs.CardsLeft.{where_agree, where_low}
+use Rattle.spiel_api.specs.Deck.{cards_left}
+use Rattle.spiel_api.proofs.CardsLeft.{where_agree, where_low}
 use Rattle.spiel_goof.specs.Cards.{held, AreLeft}
 use Rattle.spiel_goof.specs.Goofspiel.{point_of, Parts, place_by, place_at, numbers_at, legal_at, points_left, hand_of, weights_by}
 use Rattle.spiel_goof.specs.Table.{IsTable, IsSeat, seat_of}

@@ -6,8 +6,8 @@ use Rattle.std.proofs.lemmas.Option.{slice_get-get_or, slice_get_past}
 use Rattle.spiel_goof.specs.declared.turns.Stage.TheVariants.{Between, Shown}
 use Rattle.spiel_goof.specs.declared.goofspiel.PointOrder.{PointOrder}
 use Rattle.spiel_goof.specs.declared.goofspiel.PointOrder.TheVariants.{Random, Ascending, Descending}
-use Rattle.spiel_goof.specs.Deck.{numbers_below}
-use Rattle.spiel_goof.specs.CardsLeft.{length-numbers_below, number_at}
+use Rattle.spiel_api.specs.Deck.{numbers_below}
+use Rattle.spiel_api.proofs.CardsLeft.{length-numbers_below, number_at}
 use Rattle.spiel_goof.specs.Goofspiel.{given_points}
 use Rattle.spiel_goof.specs.Turns.{begun}
 

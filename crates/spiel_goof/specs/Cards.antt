@@ -2,7 +2,7 @@
 use Rattle.std.specs.Prelude.{◌≡◌, ◌<◌, ℕ, false, not, List, length, slice_index_or}
 use Rattle.spiel_api.specs.Walks.{is_in}
 use Rattle.spiel_goof.specs.declared.cards.Cards.{Cards}
-use Rattle.spiel_goof.specs.Deck.{cards_where}
+use Rattle.spiel_api.specs.Deck.{cards_where}
 
 -- of n cards those that the set has
 abbrev pub held : Cards → ℕ → List ℕ

@@ -13,7 +13,7 @@ use Rattle.spiel_goof.specs.declared.goofspiel.PointOrder.{PointOrder}
 use Rattle.spiel_goof.specs.declared.goofspiel.PointOrder.TheVariants.{Random, Ascending, Descending}
 use Rattle.spiel_goof.specs.declared.goofspiel.ReturnKind.{ReturnKind}
 use Rattle.spiel_goof.specs.declared.goofspiel.ReturnKind.TheVariants.{WinLoss, PointDifference, TotalPoints}
-use Rattle.spiel_goof.specs.Deck.{numbers_below, cards_left}
+use Rattle.spiel_api.specs.Deck.{numbers_below, cards_left}
 
 -- there are 1 to 20 cards
 pub record IsCardCount (n : ℕ) : Type 0 where

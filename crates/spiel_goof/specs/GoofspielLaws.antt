@@ -25,8 +25,9 @@ use Rattle.spiel_goof.specs.declared.turns.Stage.TheVariants.{Between, Shown, Bi
 use Rattle.spiel_goof.specs.declared.goofspiel.PointOrder.{PointOrder}
 use Rattle.spiel_goof.specs.declared.goofspiel.ReturnKind.{ReturnKind}
 use Rattle.spiel_goof.specs.declared.goofspiel.ReturnKind.TheVariants.{WinLoss, PointDifference, TotalPoints}
-use Rattle.spiel_goof.specs.Deck.{numbers_below, cards_left}
-use Rattle.spiel_goof.specs.CardsLeft.{worth, worth-append, all_worth, where_rise, where_low, where_at_most, left_at_least}
+use Rattle.spiel_api.specs.Deck.{numbers_below, cards_left}
+use Rattle.spiel_api.proofs.CardsLeft.{where_rise, where_low, where_at_most, left_at_least}
+use Rattle.spiel_goof.specs.Worth.{worth, worth-append, all_worth}
 use Rattle.spiel_goof.specs.Goofspiel.{IsCardCount, point_of, given_points, Parts, parts, place_by, place_at, numbers_at, legal_at, points_left, hand_of, weights_by, weights_at, name_by, outcome_text, other_text, turn_text, stage_text, info_at, bid_of, gain_of, points_of, return_of, pay_at, cap_of, goofspiel_rules}
 use Rattle.spiel_goof.specs.Turns.{begun, told, told_by, parts-push, parts-nil, length-parts}
 use Rattle.spiel_goof.specs.GoofspielPlays.{IsSound, IsTurnOf, IsStageOf, lying, come, length-come, sound_play}

@@ -15,11 +15,12 @@ use Rattle.spiel_goof.specs.declared.turns.Stage.TheVariants.{Between, Shown, Bi
 use Rattle.spiel_goof.specs.declared.goofspiel.PointOrder.{PointOrder}
 use Rattle.spiel_goof.specs.declared.goofspiel.PointOrder.TheVariants.{Random, Ascending, Descending}
 use Rattle.spiel_goof.specs.declared.goofspiel.ReturnKind.{ReturnKind}
-use Rattle.spiel_goof.specs.Deck.{numbers_below, cards_left}
-use Rattle.spiel_goof.specs.CardsLeft.{worth, worth-append, worth-reverse, length-numbers_below, numbers_low, left_low, left_worth, number_at, none_gone}
+use Rattle.spiel_api.specs.Deck.{numbers_below, cards_left}
+use Rattle.spiel_api.proofs.CardsLeft.{length-numbers_below, numbers_low, left_below, number_at, none_gone}
+use Rattle.spiel_goof.specs.Worth.{worth, worth-append, worth-reverse, left_worth}
 use Rattle.spiel_goof.specs.Goofspiel.{point_of, given_points, Parts, parts, place_at, legal_at, points_left, goofspiel_rules}
 use Rattle.spiel_goof.specs.Turns.{begun, told_by, parts-push, parts-nil}
-use Rattle.spiel_goof.specs.Inductions.{of_plays}
+use Rattle.spiel_api.proofs.Inductions.{of_plays}
 
 -- the point card that lies, if one does
 abbrev pub lying : Stage → List ℕ
@@ -101,7 +102,7 @@ sound_draw : (n : ℕ) (points : List ℕ) (turns : List Turn) (a : ℕ) → len
 sound_draw n points turns a fewer c sound = record {
   few = omega (arith, length-come (record { turns = turns; stage = Shown a }));
   turns = sound.turns;
-  stage = left_low n (map point_of turns) a c;
+  stage = left_below n (map point_of turns) a c;
   rest = by points sound.rest;
 }
   where
@@ -203,8 +204,8 @@ sound_told n points turns Between a given c sound = by (length turns == n) refl 
         let other = eqb-false (length turns) n e in
         let few : length turns ≤ n = omega (arith, sound.few, length-come (record { turns = turns; stage = Between })) in
         sound_draw n points turns a (omega arith) (rw e at c) sound
-sound_told n points turns (Shown point) a given c sound = sound_first n points turns point a (left_low n _ a c) sound
-sound_told n points turns (Bid point first) a given c sound = sound_second n points turns point first a given (left_low n _ a c) sound
+sound_told n points turns (Shown point) a given c sound = sound_first n points turns point a (left_below n _ a c) sound
+sound_told n points turns (Bid point first) a given c sound = sound_second n points turns point first a given (left_below n _ a c) sound
 
 -- given point cards are all cards
 all_points : (n : ℕ) → AreAllPoints n (numbers_below n)

@@ -1,9 +1,7 @@
-pub mod Deck
-pub mod CardsLeft
+pub mod Worth
 pub mod Cards
 pub mod Goofspiel
 pub mod Turns
-pub mod Inductions
 pub mod GoofspielPlays
 pub mod Table
 pub mod GoofspielState

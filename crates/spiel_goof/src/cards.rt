@@ -27,7 +27,7 @@ impl Cards {
     }
 
     /// How many of the lowest `cards` cards are left.
-    #[tactic(auto, using(crate::specs::CardsLeft::where_steps))]
+    #[tactic(auto, using(crate::proofs::CardSteps::where_steps))]
     pub fn count(&self, cards: u32) -> u32
         requires { cards ≤ 20 }
         ensures { result ≡ length (held self.now cards) }
@@ -42,7 +42,7 @@ impl Cards {
     }
 
     /// The card at an index among the lowest `cards` cards that are left.
-    #[tactic(auto, using(crate::specs::CardsLeft::where_steps))]
+    #[tactic(auto, using(crate::proofs::CardSteps::where_steps))]
     pub fn at(&self, cards: u32, index: u32) -> u32
         requires few { cards ≤ 20 }
         requires index { index < length (held self.now cards) }

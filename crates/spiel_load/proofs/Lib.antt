@@ -4,7 +4,6 @@ pub mod Finding
 pub mod Inner
 pub mod Loaded
 pub mod Nested
-pub mod Parts
 pub mod Ranges
 pub mod Taken
 pub mod Wrongs

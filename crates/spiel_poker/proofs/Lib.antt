@@ -1,3 +1,4 @@
+pub mod CardSteps
 pub mod Moves
 pub mod Said
 pub mod Steps

@@ -8,7 +8,7 @@ use Rattle.spiel_api.specs.declared.place.Place.{Place}
 use Rattle.spiel_api.specs.declared.place.Place.TheVariants.{End, Chance, Move, Joint}
 use Rattle.spiel_api.specs.Rules.{Rules}
 use Rattle.spiel_api.specs.Walks.{is_in}
-use Rattle.spiel_poker.specs.Deck.{numbers_below, cards_left}
+use Rattle.spiel_api.specs.Deck.{numbers_below, cards_left}
 use Rattle.spiel_poker.specs.Betting.{Opening, in_turn, words_owed, highest_stake, stake_of, words_of, word_letter}
 
 -- what a history is made of, besides the players' cards

@@ -18,13 +18,13 @@ use Rattle.spiel_api.specs.Walks.{is_in}
 use Rattle.spiel_api.specs.Place.{IsAmongPlayers, IsOpen, IsOutside, HasInfo}
 use Rattle.spiel_api.specs.Laws.{IsLawful, IsPrintable, HasLegalNumbers, HasChanceWeights}
 use Rattle.spiel_api.proofs.LawLemmas.{All-computed, IsStrictlyIncreasing-computed, IsPrintable-computed, without_joint_steps}
-use Rattle.spiel_poker.specs.Deck.{numbers_below, cards_left}
+use Rattle.spiel_api.specs.Deck.{numbers_below, cards_left}
 use Rattle.spiel_poker.specs.Betting.{raise_count, in_turn, words_owed, highest_stake, stake_of, words_for, word_letter}
 use Rattle.spiel_poker.specs.Leduc.{Parts, first_opening, second_opening, opening_by, opening_of, told_by, told, no_round, no_word, parts, place_in, place_by, place_at, leduc_place, cards_for, numbers_at, words_at, leduc_legal, weights_at, leduc_weights, letters, round_texts, leduc_info, leduc_name, card_name, bet_name, name_at, pay_by, pay_at, winner_in, better_card, leduc_rules}
-use Rattle.spiel_poker.specs.CardsLeft.{left_rise, left_low, left_at_least, left_at_most}
+use Rattle.spiel_api.proofs.CardsLeft.{left_rise, left_low, left_at_least, left_at_most}
 use Rattle.spiel_poker.specs.Rounds.{all_in_turn, owed_count, IsRound, no_words, one_word, fair_word, stake_high}
 use Rattle.spiel_poker.specs.Histories.{parts-card, parts-last_card, parts-more, flat_by, flat_parts}
-use Rattle.spiel_poker.specs.AlongPlays.{along}
+use Rattle.spiel_api.proofs.Inductions.{along}
 
 -- both players
 both_low : All (λ p. p < 2) (numbers_below 2)

@@ -1,9 +1,9 @@
 //! What is left of a deck of cards.
 ghost use Rattle.std.specs.Prelude.{◌≡◌, ◌<◌, length, slice_index};
-ghost use Rattle.spiel_poker.specs.Deck.{cards_left};
+ghost use Rattle.spiel_api.specs.Deck.{cards_left};
 
 /// How many cards are left of a deck of `count`, when these are dealt.
-#[tactic(auto, using(crate::specs::CardsLeft::left_steps))]
+#[tactic(auto, using(crate::proofs::CardSteps::left_steps))]
 pub fn left_count(count: u32, dealt: &[u32]) -> u32
     ensures { result ≡ length (cards_left count dealt.now) }
 {
@@ -17,7 +17,7 @@ pub fn left_count(count: u32, dealt: &[u32]) -> u32
 }
 
 /// The card at an index among those that are left, the lowest first.
-#[tactic(auto, using(crate::specs::CardsLeft::left_steps))]
+#[tactic(auto, using(crate::proofs::CardSteps::left_steps))]
 pub fn left_at(count: u32, dealt: &[u32], index: u32) -> u32
     requires { index < length (cards_left count dealt.now) }
     ensures { result ≡ slice_index (cards_left count dealt.now) index }

@@ -20,8 +20,9 @@ use Rattle.spiel_policy.specs.declared.entries.Entry.{Entry}
 use Rattle.spiel_policy.specs.declared.entries.Pair.{Pair}
 use Rattle.spiel_policy.specs.declared.fault.PolicyFault.{PolicyFault}
 use Rattle.spiel_policy.specs.declared.fault.PolicyFault.TheVariants.{Repeated, Shape, UnknownState}
-use Rattle.spiel_policy.proofs.InfoStates.{named, numbers_rise, player_low}
-use Rattle.spiel_policy.proofs.Numbers.{numbers_small, players_few}
+use Rattle.spiel_tree.proofs.GameNumbers.{numbers_rise, numbers_small, players_few}
+use Rattle.spiel_tree.proofs.StatePlayers.{player_low}
+use Rattle.spiel_policy.proofs.InfoStates.{named}
 use Rattle.spiel_policy.proofs.PlainData.{IsPlain, depth_of_items, plain_items}
 use Rattle.spiel_policy.proofs.ReadBack.{pairs_for, pairs_read, small_read, weights_read}
 

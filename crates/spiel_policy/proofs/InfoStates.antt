@@ -1,47 +1,16 @@
--- The information states of a tree: the one that an entry names, and the numbers there.
-use Rattle.std.proofs.Common.{◌≡◌, ℕ, ◌+◌, ◌<◌, ◌≤◌, Bool, true, false, cond, ◌&&◌, ◌==◌, List, length, nat_lt, lt-ltb, le-ltb, eq-eqb, eqb-true, refl, sym, ap, ap₂, ◌∙◌, subst, Option, Some, None, arith}
+-- The information state of a tree that an entry names.
+use Rattle.std.proofs.Common.{◌≡◌, ℕ, ◌<◌, ◌≤◌, Bool, true, false, cond, ◌&&◌, ◌==◌, List, length, nat_lt, lt-ltb, le-ltb, eq-eqb, eqb-true, refl, sym, ap, ap₂, ◌∙◌, subst, Option, Some, None, arith}
 use Rattle.std.specs.Prelude.{Contains, IfSome, IfNone}
 use Rattle.std.specs.List.{position_or_len}
-use Rattle.std.specs.List.Sorted.{IsStrictlyIncreasing}
 use Rattle.std.specs.Str.{bytes_eq}
 use Rattle.std.proofs.lemmas.Bool.{and_parts}
 use Rattle.std.proofs.lemmas.Slice.Eq.{bytes_eq-Decides}
 use Rattle.std.proofs.lemmas.List.Sums.{position_or_len_is}
-use Rattle.std.proofs.lemmas.List.Elements.{All-get_or, Contains-get_or}
-use Rattle.spiel_tree.specs.FirstSeen.{text_at}
-use Rattle.spiel_tree.specs.Flat.{no_row, row_at}
-use Rattle.spiel_tree.specs.Rows.{Row, rows}
-use Rattle.spiel_tree.specs.States.{InfoState, first_row, no_state, numbers_of, state_at, state_number, states_below, texts_seen}
-use Rattle.spiel_tree.specs.Trees.{IsGameTree, Whole}
-use Rattle.spiel_tree.proofs.FirstRows.{first_row_there}
-use Rattle.spiel_tree.proofs.OfGame.{IsOfPlay, rows_of_plays}
-use Rattle.spiel_tree.proofs.StateCounts.{state_split, text_number}
-use Rattle.spiel_tree.proofs.StateNumbers.{state_there}
-use Rattle.spiel_tree.proofs.Ways.{next_rises}
+use Rattle.std.proofs.lemmas.List.Elements.{Contains-get_or}
+use Rattle.spiel_tree.specs.States.{InfoState, no_state, state_at, states_below}
+use Rattle.spiel_tree.specs.Trees.{Whole}
+use Rattle.spiel_tree.proofs.StatePlayers.{one_number, player_low}
 use Rattle.spiel_policy.specs.Reading.{is_state, state_named}
-
--- ---- one number for each information state
-split_is : (players : ℕ) (rows : List Row) (s : ℕ) (l : s < length (states_below players rows))
-    → state_at players rows s ≡ record { player = (state_split players rows s l).player; text = text_at (texts_seen (state_split players rows s l).player rows) (state_split players rows s l).number }
-split_is players rows s l =
-    let split = state_split players rows s l in
-    ap (λ (n : ℕ). state_at players rows n) split.is ∙ state_there players split.player split.number rows split.low split.within
-
-own_number : (players : ℕ) (rows : List Row) (s : ℕ) → s < length (states_below players rows) → state_number rows (state_at players rows s).player (state_at players rows s).text ≡ s
-own_number players rows s l =
-    let split = state_split players rows s l in
-    let p = split.player in
-    subst (λ (state : InfoState). state_number rows state.player state.text ≡ s) (sym (split_is players rows s l))
-    (ap (λ (n : ℕ). length (states_below p rows) + n) (text_number p rows split.number split.within).first ∙ sym split.is)
-
-pub one_number : (players : ℕ) (rows : List Row) (s t : ℕ) → s < length (states_below players rows) → t < length (states_below players rows)
-    → state_at players rows s ≡ state_at players rows t → s ≡ t
-one_number players rows s t l m e =
-    sym (own_number players rows s l) ∙ ap (λ (state : InfoState). state_number rows state.player state.text) e ∙ own_number players rows t m
-
--- whose it is
-pub player_low : (players : ℕ) (rows : List Row) (s : ℕ) → s < length (states_below players rows) → (state_at players rows s).player < players
-player_low players rows s l = subst (λ (state : InfoState). state.player < players) (sym (split_is players rows s l)) (state_split players rows s l).low
 
 -- ---- the test
 is_state-self : (player : ℕ) (text : List ℕ) (state : InfoState) → state ≡ record { player = player; text = text } → is_state player text state ≡ true
@@ -91,17 +60,3 @@ pub named_by : (tree : Whole) (player : ℕ) (text : List ℕ) (answer : Option 
 named_by tree player text None there within none =
     sym (not_named tree player text (λ s m e. none (subst (Contains (states_below tree.players tree.rows)) e (Contains-get_or (states_below tree.players tree.rows) s no_state m))))
 named_by tree player text (Some s) there within none = sym (named tree player text s within there)
-
--- ---- the numbers of an information state rise
-pub numbers_rise : (tree : Whole) → IsGameTree tree → (s : ℕ) → s < length (states_below tree.players tree.rows) → IsStrictlyIncreasing (numbers_of tree.players tree.rows s)
-numbers_rise tree game s l =
-    let state = state_at tree.players tree.rows s in
-    row_rises tree game (first_row state.player state.text tree.rows) (first_row_there tree.players tree.rows s l)
-  where
-    row_rises : (tree : Whole) → IsGameTree tree → (k : ℕ) → k < length tree.rows → IsStrictlyIncreasing (row_at tree.rows k).here.numbers
-    row_rises tree game k l =
-        let r = game.rules in
-        subst (λ (t : Whole). k < length t.rows → IsStrictlyIncreasing (row_at t.rows k).here.numbers) (sym game.is)
-        (λ within.
-        let of = All-get_or (IsOfPlay r) (rows r) k no_row within (rows_of_plays r) in
-        subst (λ (row : Row). IsStrictlyIncreasing row.here.numbers) (sym of.is) (next_rises r game.lawful of.history of.play)) l

@@ -1,11 +1,9 @@
-pub mod AsciiTexts
 pub mod Choices
 pub mod FileRead
 pub mod GivenWeights
 pub mod InfoStates
 pub mod JsonBytes
 pub mod Missing
-pub mod Numbers
 pub mod PlainData
 pub mod Profiles
 pub mod ReadBack

@@ -81,7 +81,6 @@ fn take_entry(
 
 /// Takes the entries in order.
 fn take_entries(alloc: Global, tree: &Tree, values: &[Value]) -> Result<Given, PolicyFault>
-    requires { IsGameTree tree.now }
     ensures answer { MatchResult result
         (λ given. with_entries tree.now (none_given tree.now) 0 (items_view values.now) ≡ Ok given)
         (IsComputed (with_entries tree.now (none_given tree.now) 0 (items_view values.now))) }
@@ -104,8 +103,6 @@ fn policy_of(alloc: Global, tree: &Tree, value: &Value) -> Result<Policy, Policy
         (IsComputed (profile_of_data tree.now (view value.now))) }
     ensures fits { IfOk result (Fits tree.now) }
 {
-    // The tree is that of a game, whose numbers rise.
-    let _histories = tree.histories();
     let entries = entries_of(value).ok_or(PolicyFault::Head)?;
     let given = take_entries(alloc, tree, entries)?;
     given.policy(alloc)

@@ -107,11 +107,11 @@ fn entry_value(alloc: Global, tree: &Tree, policy: &Policy, state: u32) -> Resul
     json!(in alloc; {"player": player, "state": text, "actions": pairs})
 }
 
-/// The entries of all information states.
+/// The entries of all information states. The tree is that of a game, whose texts are printable.
 fn entry_values(alloc: Global, tree: &Tree, policy: &Policy) -> Result<Vec<Value>, AllocError>
-    requires game { IsGameTree tree.now }
-    requires fits { Fits tree.now policy.now }
-    ensures { IfOk result (λ entries. map view entries.items ≡ entries_data tree.now policy.now) }
+    requires { Fits tree.now policy.now }
+    ensures entries { IfOk result (λ entries. map view entries.items ≡ entries_data tree.now policy.now) }
+    ensures game { IfOk result (λ entries. IsGameTree tree.now) }
 {
     let mut entries = Vec::new(alloc);
     for state in 0..tree.states() {
@@ -123,9 +123,9 @@ fn entry_values(alloc: Global, tree: &Tree, policy: &Policy) -> Result<Vec<Value
 
 /// The whole file.
 fn file_value(alloc: Global, tree: &Tree, policy: &Policy) -> Result<Value, AllocError>
-    requires game { IsGameTree tree.now }
-    requires fits { Fits tree.now policy.now }
-    ensures { IfOk result (λ file. view file ≡ file_data tree.now policy.now) }
+    requires { Fits tree.now policy.now }
+    ensures file { IfOk result (λ file. view file ≡ file_data tree.now policy.now) }
+    ensures game { IfOk result (λ file. IsGameTree tree.now) }
 {
     let entries = entry_values(alloc, tree, policy)?;
     json!(in alloc; {"policy": 1u32, "states": entries})
@@ -133,10 +133,10 @@ fn file_value(alloc: Global, tree: &Tree, policy: &Policy) -> Result<Value, Allo
 
 /// The whole text.
 fn policy_string(alloc: Global, tree: &Tree, policy: &Policy) -> Result<String, AllocError>
-    requires game { IsGameTree tree.now }
-    requires fits { Fits tree.now policy.now }
+    requires { Fits tree.now policy.now }
     ensures text { IfOk result (λ text. string_bytes text ≡ policy_text tree.now policy.now) }
     ensures value { IfOk result (λ text. json_of (policy_text tree.now policy.now) ≡ Some (file_data tree.now policy.now)) }
+    ensures game { IfOk result (λ text. IsGameTree tree.now) }
 {
     let file = file_value(alloc, tree, policy)?;
     let mut text = file.to_string(alloc)?;
@@ -160,8 +160,6 @@ pub fn write_policy(
     ensures reads_back { OnOk result (HasShortWeights policy.now
         → policy_of tree.now (policy_text tree.now policy.now) ≡ Ok policy.now) }
 {
-    // The tree is that of a game, whose texts are printable.
-    let _histories = tree.histories();
     let text = policy_string(alloc, tree, policy)?;
     out.push(text.as_bytes())
 }

@@ -4,26 +4,25 @@ use Rattle.std.proofs.Common.{◌≡◌, ℕ, zero, suc, ◌<◌, ◌≤◌, Boo
 use Rattle.std.specs.Prelude.{slice_index}
 use Rattle.std.specs.List.{AllByRecursion}
 use Rattle.std.specs.Str.{bytes_eq}
-use Rattle.std.specs.List.Sorted.{IsStrictlyIncreasing}
 use Rattle.std.proofs.lemmas.Bool.{true≢false, false≢true}
 use Rattle.std.proofs.lemmas.List.{map-append}
-use Rattle.std.proofs.lemmas.List.Elements.{All-get_or}
 use Rattle.std.proofs.lemmas.Slice.Eq.{bytes_eq-Decides}
 use Rattle.spiel_api.specs.Place.{IsAmongPlayers}
 use Rattle.spiel_tree.specs.FirstSeen.{place_of_text, text_at}
-use Rattle.spiel_tree.specs.Rows.{Row, Step, place_of_number, rows, taken, way_on}
-use Rattle.spiel_tree.specs.Flat.{moves, no_row, row_at}
+use Rattle.spiel_tree.specs.Rows.{Row, Step, place_of_number, taken, way_on}
+use Rattle.spiel_tree.specs.Flat.{moves, row_at}
 use Rattle.spiel_tree.specs.States.{InfoState, decides, first_row, numbers_of, state_at, state_number, states_below, texts_seen}
 use Rattle.spiel_tree.specs.Closed.{GoesFrom}
 use Rattle.spiel_tree.specs.Faults.{Choice, own_past}
 use Rattle.spiel_tree.specs.Trees.{IsGameTree, Whole}
 use Rattle.spiel_tree.proofs.Decisions.{like_first}
 use Rattle.spiel_tree.proofs.FirstSeen.{text_at-place}
-use Rattle.spiel_tree.proofs.OfGame.{IsOfPlay, rows_of_plays, sound_rows}
+use Rattle.spiel_tree.proofs.GameNumbers.{row_rises}
+use Rattle.spiel_tree.proofs.OfGame.{sound_rows}
 use Rattle.spiel_tree.proofs.Parents.{tree_goes_from, tree_root}
 use Rattle.spiel_tree.proofs.PerfectRecall.{tree_recall}
 use Rattle.spiel_tree.proofs.StateNumbers.{one_player_more, state_there}
-use Rattle.spiel_tree.proofs.Ways.{next_rises, place_is}
+use Rattle.spiel_tree.proofs.Ways.{place_is}
 use Rattle.spiel_response.specs.Responses.{OwnStep}
 use Rattle.spiel_response.specs.Remembered.{IsRising, passes, past}
 use Rattle.spiel_response.specs.BestResponses.{own_steps}
@@ -79,15 +78,6 @@ one_text rows p k l within other e f same =
     ∙ text_at-place (texts_seen p rows) (row_at rows l).here.info (text_within rows p l other f)
 
 -- ---- the tree of a game
--- the numbers at a row rise
-numbers_rise : (tree : Whole) → IsGameTree tree → (k : ℕ) → k < length tree.rows → IsStrictlyIncreasing (row_at tree.rows k).here.numbers
-numbers_rise tree game k l =
-    let r = game.rules in
-    subst (λ (t : Whole). k < length t.rows → IsStrictlyIncreasing (row_at t.rows k).here.numbers) (sym game.is)
-    (λ within.
-    let of = All-get_or (IsOfPlay r) (rows r) k no_row within (rows_of_plays r) in
-    subst (λ (row : Row). IsStrictlyIncreasing row.here.numbers) (sym of.is) (next_rises r game.lawful of.history of.play)) l
-
 -- a player who moves is one of the players
 pub mover_below : (tree : Whole) → IsGameTree tree → (p k : ℕ) → k < length tree.rows → moves p (row_at tree.rows k).here.place ≡ true → p < tree.players
 mover_below tree game p k l e = subst (IsAmongPlayers tree.players) (move_is p (row_at tree.rows k).here.place e) (sound_rows tree game k l).mover
@@ -142,7 +132,7 @@ steps_before tree game p (suc n) (suc k) m l =
     by true e ih =
         let there : numbers_of tree.players rs (state_number rs p parent.here.info) ≡ parent.here.numbers = numbers_here tree game p from.parent within e in
         let index : from.index ≡ place_of_number (numbers_of tree.players rs (state_number rs p parent.here.info)) (slice_index parent.here.numbers from.index) =
-        sym (ap (λ (numbers : List ℕ). place_of_number numbers (slice_index parent.here.numbers from.index)) there ∙ place_is parent.here.numbers from.index (numbers_rise tree game from.parent within) from.legal) in
+        sym (ap (λ (numbers : List ℕ). place_of_number numbers (slice_index parent.here.numbers from.index)) there ∙ place_is parent.here.numbers from.index (row_rises tree game from.parent within) from.legal) in
         ap₂ (λ (xs : List OwnStep) (i : ℕ). xs ++ record { state = state_number rs p parent.here.info; index = i } ∷ []) ih index
     by false e ih = ap (λ (xs : List OwnStep). xs ++ []) ih
 

@@ -1,11 +1,11 @@
 -- The text of lines: one line more, and the lines that it is read as.
 use Rattle.std.proofs.Common.{◌≡◌, ℕ, ◌+◌, ◌<◌, Bool, true, false, eqb, List, [], ◌∷◌, ◌++◌, length, map, take, get_or, refl, sym, ◌∙◌, ap, append_assoc}
 use Rattle.std.specs.Prelude.{not, if◌then◌else◌}
-use Rattle.std.specs.List.{list_all}
+use Rattle.std.specs.List.{list_all, onto_first}
 use Rattle.std.specs.Fmt.{decimal}
 use Rattle.std.proofs.lemmas.Bool.{eqb-true, and_from, and_parts, true≢false}
 use Rattle.std.proofs.lemmas.List.{map_more}
-use Rattle.spiel_save.specs.Lines.{lines_of, lines_text, with_byte}
+use Rattle.spiel_save.specs.Lines.{lines_of, lines_text}
 
 -- ---- one line more
 
@@ -48,9 +48,9 @@ plain_by (byte ∷ bytes) p fails all =
 -- ---- what is read of the text of lines
 
 one_byte : (feed : Bool) (byte : ℕ) (line rest : List ℕ) (lines : List (List ℕ)) → not feed ≡ true → lines_of rest ≡ line ∷ lines
-    → (if feed then [] ∷ lines_of rest else with_byte byte (lines_of rest)) ≡ (byte ∷ line) ∷ lines
+    → (if feed then [] ∷ lines_of rest else onto_first byte (lines_of rest)) ≡ (byte ∷ line) ∷ lines
 one_byte true byte line rest lines none e = absurd (true≢false (sym none))
-one_byte false byte line rest lines none e = ap (with_byte byte) e
+one_byte false byte line rest lines none e = ap (onto_first byte) e
 
 first_of_text : (line rest : List ℕ) → is_plain line ≡ true → lines_of (line ++ 10 ∷ rest) ≡ line ∷ lines_of rest
 first_of_text [] rest plain = refl

@@ -1,15 +1,11 @@
 -- The lines of a file, and those of them that are kept.
 use Rattle.std.specs.Prelude.{ℕ, suc, ◌==◌, Bool, false, not, List, [], ◌∷◌, ◌++◌, if◌then◌else◌}
-
--- a byte in front of the first line
-abbrev pub with_byte : ℕ → List (List ℕ) → List (List ℕ)
-with_byte byte [] = (byte ∷ []) ∷ []
-with_byte byte (line ∷ lines) = (byte ∷ line) ∷ lines
+use Rattle.std.specs.List.{onto_first}
 
 -- the lines of a text: each ends at a line feed, which the last one may lack
 abbrev pub lines_of : List ℕ → List (List ℕ)
 lines_of [] = []
-lines_of (byte ∷ bytes) = if byte == 10 then [] ∷ lines_of bytes else with_byte byte (lines_of bytes)
+lines_of (byte ∷ bytes) = if byte == 10 then [] ∷ lines_of bytes else onto_first byte (lines_of bytes)
 
 -- the text of lines, each with a line feed behind it
 abbrev pub lines_text : List (List ℕ) → List ℕ

@@ -1,12 +1,7 @@
-ghost use Rattle.std.specs.Prelude.{◌≡◌, ◌∷◌, ◌+◌, ◌<◌, ◌≤◌, ◌==◌, ◌^◌, [], length, position, IfSome, MatchOption};
+ghost use Rattle.std.specs.Prelude.{◌≡◌, ◌∷◌, ◌+◌, ◌<◌, ◌≤◌, ◌==◌, ◌^◌, [], length, IfSome, MatchOption};
 ghost use Rattle.spiel_save.specs.Lines.{is_kept, kept_from, lines_of};
 
-// Where the first line feed stands.
-fn line_end(bytes: &[u8]) -> Option<usize>
-    ensures { result ≡ position (λ byte. byte == 10) bytes.now }
-{
-    bytes.iter().position(|byte| *byte == b'\n')
-}
+use spiel_frac::cut;
 
 // The first line without its line feed, and what follows it. There is none in an empty text.
 fn first_line(bytes: &[u8]) -> Option<(&[u8], &[u8])>
@@ -16,8 +11,8 @@ fn first_line(bytes: &[u8]) -> Option<(&[u8], &[u8])>
     if bytes.is_empty() {
         return None;
     }
-    match line_end(bytes) {
-        Some(end) => Some((&bytes[..end], &bytes[end + 1..])),
+    match cut(bytes, b'\n') {
+        Some(parts) => Some(parts),
         None => Some((bytes, &[])),
     }
 }

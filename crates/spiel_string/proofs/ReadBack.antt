@@ -10,7 +10,6 @@ use Rattle.std.specs.declared.cmp.Ordering.TheVariants.{Less}
 use Rattle.std.proofs.lemmas.Bool.{and_from, and_parts, or_left, or_right, lt-ltb, le-leb}
 use Rattle.std.proofs.lemmas.Bool.Decides.{nat_tests}
 use Rattle.std.proofs.lemmas.Cmp.{nat_list_cmp_total}
-use Rattle.std.proofs.lemmas.Fmt.{digits_decimal, digits_value-decimal, decimal_nonempty, length-decimal-le}
 use Rattle.spiel_string.specs.Alphabet.{is_name, is_word, is_word_byte, is_name_byte, is_lower}
 use Rattle.spiel_string.specs.Canonical.{joined, value_text, game_text, params_entries}
 use Rattle.spiel_string.specs.Game.{Game, game, Params, no_params, param, Value, int, flag, word, inner}
@@ -22,7 +21,7 @@ use Rattle.spiel_string.specs.Sorted.{sorted}
 use Rattle.spiel_string.specs.Values.{are_digits, digits_of, is_negative, number_of, whole_of, is_true, is_false, flag_or_word, number_or, word_value, value_of, brackets_params, entries_params, game_of}
 use Rattle.spiel_string.specs.View.{params_of}
 use Rattle.spiel_string.specs.WellFormed.{RisesFrom, Rises, IsWellValue, IsWell, AreWell, value_depth, game_depth, params_depth, IsWellFormed}
-use Rattle.spiel_string.proofs.Digits.{own}
+use Rattle.spiel_frac.proofs.Numerals.{decimal_digits, decimal_short, decimal_some, decimal_value}
 use Rattle.spiel_string.proofs.KeyOrder.{Order, RiseFrom, below_is_other, sorted-rise}
 
 -- ---- the tree of a value, with no spaces
@@ -113,12 +112,12 @@ small_64 n h = omega arith
 
 digits_of-decimal : (n : ℕ) → n < 10 ^ 18 → digits_of (decimal n) ≡ Some n
 digits_of-decimal n h =
-    let some : 0 < length (decimal n) = decimal_nonempty n (small_64 n h) in
-    let few : length (decimal n) ≤ 18 = length-decimal-le 18 n (omega arith) h (small_64 n h) in
+    let some : 0 < length (decimal n) = decimal_some n (small_64 n h) in
+    let few : length (decimal n) ≤ 18 = decimal_short n h in
     let all : are_digits (decimal n) ≡ true =
     and_from (ltb 0 (length (decimal n))) _ (lt-ltb 0 (length (decimal n)) some)
-    (and_from (leb (length (decimal n)) 18) _ (le-leb (length (decimal n)) 18 few) (digits_decimal own n (small_64 n h))) in
-    ap (λ b. if b then Some (digits_value 10 (decimal n)) else None) all ∙ ap (λ u. Some u) (digits_value-decimal own n (small_64 n h))
+    (and_from (leb (length (decimal n)) 18) _ (le-leb (length (decimal n)) 18 few) (decimal_digits n (small_64 n h))) in
+    ap (λ b. if b then Some (digits_value 10 (decimal n)) else None) all ∙ ap (λ u. Some u) (decimal_value n (small_64 n h))
 
 not_negative : (ds : List ℕ) → list_all is_ascii_digit ds ≡ true → is_negative ds ≡ false
 not_negative [] h = refl
@@ -129,7 +128,7 @@ not_negative (x ∷ xs) h = not_45 x (and_parts (is_ascii_digit x) _ h).0
 
 whole_of-signed : (z : ℤ) → unsigned_abs z < 10 ^ 18 → whole_of (signed_decimal z) ≡ Some z
 whole_of-signed (pos n) h =
-    ap (λ b. if b then number_of true (digits_of (drop 1 (decimal n))) else number_of false (digits_of (decimal n))) (not_negative (decimal n) (digits_decimal own n (small_64 n h)))
+    ap (λ b. if b then number_of true (digits_of (drop 1 (decimal n))) else number_of false (digits_of (decimal n))) (not_negative (decimal n) (decimal_digits n (small_64 n h)))
     ∙ ap (number_of false) (digits_of-decimal n h)
 whole_of-signed (negsuc n) h = ap (number_of true) (digits_of-decimal (suc n) h)
 
@@ -144,8 +143,8 @@ is_word-digits [] some h = absurd (omega arith)
 is_word-digits (x ∷ xs) some h = word_of_digits (x ∷ xs) h
 
 is_word-signed : (z : ℤ) → unsigned_abs z < 10 ^ 18 → is_word (signed_decimal z) ≡ true
-is_word-signed (pos n) h = is_word-digits (decimal n) (decimal_nonempty n (small_64 n h)) (digits_decimal own n (small_64 n h))
-is_word-signed (negsuc n) h = word_of_digits (decimal (suc n)) (digits_decimal own (suc n) (small_64 (suc n) h))
+is_word-signed (pos n) h = is_word-digits (decimal n) (decimal_some n (small_64 n h)) (decimal_digits n (small_64 n h))
+is_word-signed (negsuc n) h = word_of_digits (decimal (suc n)) (decimal_digits (suc n) (small_64 (suc n) h))
 
 -- ---- its names are names and its words are words
 

@@ -1,3 +1,4 @@
+pub mod AsciiTexts
 pub mod Children
 pub mod ComputedFaults
 pub mod Decisions
@@ -5,6 +6,7 @@ pub mod FaultRows
 pub mod FirstFault
 pub mod FirstRows
 pub mod FirstSeen
+pub mod GameNumbers
 pub mod Growing
 pub mod OfGame
 pub mod PerfectRecall

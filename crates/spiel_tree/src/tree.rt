@@ -138,9 +138,10 @@ impl Tree {
         self.rows.count()
     }
 
-    /// How many information states there are.
+    /// How many information states there are. The tree is that of a game.
     pub fn states(&self) -> u32
-        ensures { result ≡ length (states_below self.now.players self.now.rows) }
+        ensures count { result ≡ length (states_below self.now.players self.now.rows) }
+        ensures game { IsGameTree self.now }
     {
         self.firsts.len() as u32
     }

@@ -2,7 +2,8 @@ use Rattle.std.proofs.Common.{◌++◌, ◌∙◌, ◌∷◌, sym, ap, List, ℕ
 use Rattle.std.specs.Fmt.{decimal}
 use Rattle.std.proofs.lemmas.Result.{err_from_is_err_and}
 use Rattle.spiel_dice.specs.LiarsDice.{listed}
-use Rattle.spiel_dice.proofs.Listing.{listed-take_more, part_listed}
+use Rattle.spiel_frac.proofs.Listings.{decimals_joined}
+use Rattle.spiel_dice.proofs.Listing.{part_listed}
 use Rattle.spiel_dice.proofs.liars_dice.push_listed.Goals as goal
 
 pub returns-in_err-push_next : goal.returns-in_err-push_next
@@ -16,4 +17,4 @@ loop-index-preserved c =
     let k = c.loop-index.index in
     let next : List ℕ = if k == 0 then decimal (get_or numbers k 0) else c.args.separator ∷ decimal (get_or numbers k 0) in
     c.in_ok-push_next.ensures ∙ ap (λ (text : List ℕ). text ++ next) c.loop-index.invariant ∙ append_assoc c.args.out.now (listed c.args.separator (take k numbers)) next
-    ∙ ap (λ (text : List ℕ). c.args.out.now ++ text) (sym (listed-take_more c.args.separator numbers k c.loop-index-test.true))
+    ∙ ap (λ (text : List ℕ). c.args.out.now ++ text) (sym (decimals_joined c.args.separator numbers k c.loop-index-test.true))

@@ -4,10 +4,10 @@ use Rattle.spiel_frac.proofs.ReadBack.{frac_of-ratio, frac_of-scaled, frac_of-fr
 use Rattle.spiel_frac.proofs.reading.read_frac.Goals as goal
 
 ratio_is : (c : goal.After-read_ratio) → c.read_ratio.result ≡ frac_of c.args.text.now
-ratio_is c = frac_of-ratio c.read_ratio.result c.args.text.now c.behind_sign-size.result.now c.in-Some.above.now c.in-Some.below.now c.is_negative-negative.result c.is_negative-negative.ensures c.behind_sign-size.ensures c.in-Some.ensures c.read_ratio.ensures
+ratio_is c = frac_of-ratio c.read_ratio.result c.args.text.now c.behind_sign-size.result.now c.in-Some.above.now c.in-Some.below.now c.is_negative-negative.result c.is_negative-negative.ensures c.behind_sign-size.ensures c.in-Some.ensures.sides c.read_ratio.ensures
 
 scaled_is : (c : goal.After-read_scaled) → c.read_scaled.result ≡ frac_of c.args.text.now
-scaled_is c = frac_of-scaled c.read_scaled.result c.args.text.now c.behind_sign-size.result.now c.is_negative-negative.result c.is_negative-negative.ensures c.behind_sign-size.ensures c.in-None.ensures c.read_scaled.ensures
+scaled_is c = frac_of-scaled c.read_scaled.result c.args.text.now c.behind_sign-size.result.now c.is_negative-negative.result c.is_negative-negative.ensures c.behind_sign-size.ensures c.in-None.ensures.sides c.read_scaled.ensures
 
 pub returns-in-Some-clause-value : goal.returns-in-Some-clause-value
 returns-in-Some-clause-value c = ratio_is c

@@ -1,5 +1,5 @@
 use Rattle.std.proofs.Common.{◌≡◌, length}
-use Rattle.spiel_poker.specs.Deck.{cards_left}
+use Rattle.spiel_api.specs.Deck.{cards_left}
 use Rattle.spiel_poker.proofs.deck.left_count.Given as goal
 
 -- so many of the cards so far are left

@@ -29,7 +29,7 @@ pub returns-clause-fits : goal.returns-clause-fits
 returns-clause-fits c =
     let tree = c.args.tree.now in
     let other = c.args.other in
-    let last : c.loop-state.state ≡ length (states_below tree.players tree.rows) = omega (arith, c.loop-state-test.false, c.loop-state.auto.state-end, c.states-state-end.ensures) in
+    let last : c.loop-state.state ≡ length (states_below tree.players tree.rows) = omega (arith, c.loop-state-test.false, c.loop-state.auto.state-end, c.states-state-end.ensures.count) in
     let whole : c.new.result ≡ profile_with tree other = c.new.ensures ∙ c.loop-state.invariant.weights_are ∙ ap (by_counts (λ n. first_and n other) tree) last in
     let reduced = subst (All AreReduced) (sym c.new.ensures ∙ whole) c.loop-state.invariant.reduced in
     subst (Fits tree) (sym whole) (fits_with tree other reduced)

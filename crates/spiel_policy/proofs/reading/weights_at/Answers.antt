@@ -4,7 +4,7 @@ use Rattle.spiel_tree.specs.States.{numbers_of}
 use Rattle.spiel_policy.specs.Weighing.{IsPart, pair_for}
 use Rattle.spiel_policy.specs.declared.entries.Pair.{Pair}
 use Rattle.spiel_policy.specs.declared.fault.PolicyFault.TheVariants.{Sum}
-use Rattle.spiel_policy.proofs.InfoStates.{numbers_rise}
+use Rattle.spiel_tree.proofs.GameNumbers.{numbers_rise}
 use Rattle.spiel_policy.proofs.Reduced.{IsTable, parts_divide, small_whole-is, table_is, weights_reduced}
 use Rattle.spiel_policy.proofs.Steps.{ok_reduced}
 use Rattle.spiel_policy.proofs.Weights.{whole_positive}

@@ -13,13 +13,13 @@ pub returns-clause-text : goal.returns-clause-text
 unfolding policy_text
 returns-clause-text c =
     written_line (file_data c.args.tree.now c.args.policy.now) (view c.in_ok-file.file) (string_bytes c.in_ok-text.text) (string_bytes c.push_str.new.self)
-    c.in_ok-file.ensures (file_plain c.args.tree.now c.args.policy.now c.requires.game) c.in_ok-text.ensures.text c.in_ok-push_str.ensures.bytes
+    c.in_ok-file.ensures.file (file_plain c.args.tree.now c.args.policy.now c.in_ok-file.ensures.game) c.in_ok-text.ensures.text c.in_ok-push_str.ensures.bytes
 
 pub returns-clause-value : goal.returns-clause-value
 unfolding policy_text
 returns-clause-value c =
     let d = file_data c.args.tree.now c.args.policy.now in
-    let plain = file_plain c.args.tree.now c.args.policy.now c.requires.game in
-    let text = written_line d (view c.in_ok-file.file) (string_bytes c.in_ok-text.text) (string_bytes c.push_str.new.self) c.in_ok-file.ensures plain c.in_ok-text.ensures.text c.in_ok-push_str.ensures.bytes in
+    let plain = file_plain c.args.tree.now c.args.policy.now c.in_ok-file.ensures.game in
+    let text = written_line d (view c.in_ok-file.file) (string_bytes c.in_ok-text.text) (string_bytes c.push_str.new.self) c.in_ok-file.ensures.file plain c.in_ok-text.ensures.text c.in_ok-push_str.ensures.bytes in
     json_of-some (compact_text d ++ 10 ∷ []) d (subst IsUtf8 text (IsUtf8-string_bytes c.push_str.new.self))
-    (line_read d (view c.in_ok-file.file) (string_bytes c.in_ok-text.text) c.in_ok-file.ensures plain (file_shallow c.args.tree.now c.args.policy.now) c.in_ok-text.ensures.text c.in_ok-text.ensures.reads_back)
+    (line_read d (view c.in_ok-file.file) (string_bytes c.in_ok-text.text) c.in_ok-file.ensures.file plain (file_shallow c.args.tree.now c.args.policy.now) c.in_ok-text.ensures.text c.in_ok-text.ensures.reads_back)

@@ -2,7 +2,7 @@ use Rattle.std.proofs.Common.{sym, subst}
 use Rattle.std.specs.Prelude.{IsUtf8}
 use Rattle.std.proofs.lemmas.Str.{IsUtf8-from_ascii}
 use Rattle.spiel_tree.specs.States.{state_at}
-use Rattle.spiel_policy.proofs.AsciiTexts.{text_ascii}
+use Rattle.spiel_tree.proofs.AsciiTexts.{text_ascii}
 use Rattle.spiel_policy.proofs.writing.state_str.Goals as goal
 
 pub unreachable-requires : goal.unreachable-requires

@@ -13,5 +13,5 @@ unfolding policy_of
 returns-clause-reads_back c =
     let back : HasShortWeights c.args.policy.now → policy_of c.args.tree.now (policy_text c.args.tree.now c.args.policy.now) ≡ Ok c.args.policy.now = λ short.
     ap (λ (o : Option Data). go_on (profile_of_data c.args.tree.now) (ok_or o Json)) c.in_ok-text.ensures.value
-    ∙ file_read c.args.tree.now c.args.policy.now c.histories-histories.ensures.game c.requires short in
+    ∙ file_read c.args.tree.now c.args.policy.now c.in_ok-text.ensures.game c.requires short in
     elim c.push.result as (λ r. OnOk r (HasShortWeights c.args.policy.now → policy_of c.args.tree.now (policy_text c.args.tree.now c.args.policy.now) ≡ Ok c.args.policy.now)) [ Ok done ↦ back | Err error ↦ tt ]

@@ -36,5 +36,5 @@ invariant_of-result-2 c =
       answered = nothing_answered j c.in_ok-responses.responses.made.items c.in_ok-responses.responses.earned.items c.in_ok-responses.responses.answers.items c.in_ok-responses.responses.sums.items
           (c.in_ok-responses.ensures.made ∙ ap (λ (n : ℕ). replicate n false) c.players.ensures)
           (c.in_ok-responses.ensures.earned ∙ c.players.ensures)
-          (record { sums_count = c.in_ok-responses.ensures.sums ∙ long ∙ gathered.sums_are.count; answers_count = c.in_ok-responses.ensures.answers ∙ c.states.ensures });
+          (record { sums_count = c.in_ok-responses.ensures.sums ∙ long ∙ gathered.sums_are.count; answers_count = c.in_ok-responses.ensures.answers ∙ c.states.ensures.count });
     }

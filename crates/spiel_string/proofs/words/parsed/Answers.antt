@@ -1,6 +1,6 @@
 use Rattle.std.proofs.Common.{subst, List, ℕ}
 use Rattle.std.specs.Str.Parse.{ParsesUnsigned}
-use Rattle.spiel_string.proofs.Digits.{digits_are_text, digits_parsed, text_is_ok, text_same}
+use Rattle.spiel_frac.proofs.Numerals.{digits_are_text, digits_parsed, text_is_ok, text_same}
 use Rattle.spiel_string.proofs.words.parsed.Goals as goal
 
 pub unwrap-text-requires : goal.unwrap-text-requires
@@ -10,4 +10,4 @@ pub returns : goal.returns
 returns c =
     let bytes = c.args.bytes.now in
     let same = text_same (λ text. text.now) c.from_utf8.result c.unwrap-text.result bytes _ _ c.from_utf8.ensures.cases c.unwrap-text.ensures in
-    rw c.ok.ensures.value (digits_parsed bytes c.parse.result c.requires (subst (λ (text : List ℕ). ParsesUnsigned 64 10 text c.parse.result) same c.parse.ensures.value.0))
+    rw c.ok.ensures.value (digits_parsed 64 bytes c.parse.result c.requires (subst (λ (text : List ℕ). ParsesUnsigned 64 10 text c.parse.result) same c.parse.ensures.value.0))

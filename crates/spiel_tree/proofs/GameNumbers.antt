@@ -1,6 +1,7 @@
--- The numbers and players of a tree are small.
+-- The numbers in the tree of a game rise and are small, and so is the number of players.
 use Rattle.std.proofs.Common.{◌≡◌, ℕ, ◌-◌, ◌^◌, ◌<◌, ◌≤◌, List, length, refl, sym, subst, arith}
 use Rattle.std.specs.Prelude.{All}
+use Rattle.std.specs.List.Sorted.{IsStrictlyIncreasing}
 use Rattle.std.proofs.lemmas.List.Elements.{All-get_or, All-nil, All-weaker}
 use Rattle.spiel_api.specs.declared.place.Place.{Place}
 use Rattle.spiel_api.specs.declared.place.Place.TheVariants.{End, Chance, Move, Joint}
@@ -14,6 +15,25 @@ use Rattle.spiel_tree.specs.States.{first_row, numbers_of, state_at, states_belo
 use Rattle.spiel_tree.specs.Trees.{IsGameTree, Whole}
 use Rattle.spiel_tree.proofs.FirstRows.{first_row_there}
 use Rattle.spiel_tree.proofs.OfGame.{IsOfPlay, rows_of_plays}
+use Rattle.spiel_tree.proofs.Ways.{next_rises}
+
+-- ---- they rise
+-- at a row
+pub row_rises : (tree : Whole) → IsGameTree tree → (k : ℕ) → k < length tree.rows → IsStrictlyIncreasing (row_at tree.rows k).here.numbers
+row_rises tree game k l =
+    let r = game.rules in
+    subst (λ (t : Whole). k < length t.rows → IsStrictlyIncreasing (row_at t.rows k).here.numbers) (sym game.is)
+    (λ within.
+    let of = All-get_or (IsOfPlay r) (rows r) k no_row within (rows_of_plays r) in
+    subst (λ (row : Row). IsStrictlyIncreasing row.here.numbers) (sym of.is) (next_rises r game.lawful of.history of.play)) l
+
+-- and at an information state
+pub numbers_rise : (tree : Whole) → IsGameTree tree → (s : ℕ) → s < length (states_below tree.players tree.rows) → IsStrictlyIncreasing (numbers_of tree.players tree.rows s)
+numbers_rise tree game s l =
+    let state = state_at tree.players tree.rows s in
+    row_rises tree game (first_row state.player state.text tree.rows) (first_row_there tree.players tree.rows s l)
+
+-- ---- they are small
 
 -- the numbers of whoever is next
 next_small : (r : Rules) → IsLawful r → (h : List ℕ) → IsPlay r h → All (λ a. a < 2 ^ 32 - 1) (next_of r h)

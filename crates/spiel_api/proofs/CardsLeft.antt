@@ -1,17 +1,15 @@
--- Cards that pass a test: how many they are, which stands where, and what they are worth.
-use Rattle.std.proofs.Common.{◌≡◌, ℕ, zero, suc, ◌+◌, ◌*◌, ◌/◌, ◌<◌, ◌≤◌, Bool, true, false, not, ◌||◌, cond, List, [], ◌∷◌, ◌++◌, length, reverse, ◌==◌, ◌⊎◌, inl, inr, refl, ap, sym, ◌∙◌, arith, add-one, length-append}
+-- Cards that pass a test, and those that are left: how many they are, and which stands where.
+use Rattle.std.proofs.Common.{◌≡◌, ℕ, zero, suc, ◌+◌, ◌<◌, ◌≤◌, Bool, true, false, not, cond, List, [], ◌∷◌, ◌++◌, length, ◌⊎◌, inl, inr, refl, ap, sym, ◌∙◌, arith, add-one, length-append}
 use Rattle.std.specs.Prelude.{slice_index}
-use Rattle.std.specs.List.{All, Contains, sum_by}
+use Rattle.std.specs.List.{All, Contains}
 use Rattle.std.specs.List.Sorted.{IsStrictlyIncreasing}
-use Rattle.std.proofs.lemmas.Bool.{cases_lt, cases_eq, ne_eqb, eq-eqb}
+use Rattle.std.proofs.lemmas.Bool.{cases_lt, cases_eq, ne_eqb}
 use Rattle.std.proofs.lemmas.List.Elements.{All-nil, All-push, All-weaker, All-filter, All-contains, filter-append, filter_passes}
 use Rattle.std.proofs.lemmas.List.Kept.{IsStrictlyIncreasing-filter}
-use Rattle.std.proofs.lemmas.List.{get_or_append_left, append-nil, reverse-append}
-use Rattle.std.proofs.lemmas.List.Folds.{list_any-append}
-use Rattle.std.proofs.lemmas.List.Sums.{sum_by-append, sum_by-cons}
+use Rattle.std.proofs.lemmas.List.{get_or_append_left, append-nil}
 use Rattle.std.proofs.Math.Seq.{get_or-append_seam}
 use Rattle.spiel_api.specs.Walks.{is_in}
-use Rattle.spiel_goof.specs.Deck.{numbers_below, cards_where, cards_left}
+use Rattle.spiel_api.specs.Deck.{numbers_below, cards_where, cards_left}
 
 -- the numbers below n are n numbers, each at its own place
 pub length-numbers_below : (n : ℕ) → length (numbers_below n) ≡ n
@@ -36,29 +34,6 @@ numbers_rise n k l =
 pub numbers_low : (n : ℕ) → All (λ a. a < n) (numbers_below n)
 numbers_low zero = All-nil (λ a. a < 0)
 numbers_low (suc n) = All-push (λ a. a < suc n) (numbers_below n) n (All-weaker (λ a. a < n) (λ a. a < suc n) (λ x l. omega arith) (numbers_below n) (numbers_low n)) (omega arith)
-
--- what cards are worth: a card's number is the card less 1
-abbrev pub worth : List ℕ → ℕ
-worth cards = sum_by (λ c. c + 1) cards
-
-pub worth-append : (xs ys : List ℕ) → worth (xs ++ ys) ≡ worth xs + worth ys
-worth-append xs ys = sum_by-append (λ c. c + 1) xs ys
-
-pub worth-reverse : (xs : List ℕ) → worth (reverse xs) ≡ worth xs
-worth-reverse [] = refl
-worth-reverse (x ∷ xs) =
-    let last : reverse (x ∷ xs) ≡ reverse xs ++ x ∷ [] = reverse-append (x ∷ []) xs in
-    rw last (omega (arith, worth-append (reverse xs) (x ∷ []), worth-reverse xs, sum_by-cons (λ (c : ℕ). c + 1) x xs))
-
--- all of n cards
-twice_worth : (n : ℕ) → worth (numbers_below n) + worth (numbers_below n) ≡ n * (n + 1)
-twice_worth zero = refl
-twice_worth (suc n) =
-    let more : suc n * (suc n + 1) ≡ n * (n + 1) + (n + 1) + (n + 1) = grind arith in
-    omega (arith, more, twice_worth n, worth-append (numbers_below n) (n ∷ []))
-
-pub all_worth : (n : ℕ) → worth (numbers_below n) ≡ n * (n + 1) / 2
-all_worth n = omega (arith, twice_worth n)
 
 -- cards that pass a test rise, and are of the n cards
 pub where_rise : (test : ℕ → Bool) (n : ℕ) → IsStrictlyIncreasing (cards_where test n)
@@ -135,46 +110,32 @@ where_agree test other zero same = where_empty test ∙ sym (where_empty other)
 where_agree test other (suc n) same =
     where_push test n ∙ rw (same n (omega arith), where_agree test other n (λ c l. same c (omega arith))) (sym (where_push other n))
 
--- two tests that agree at all cards but one
-module _ (test other : ℕ → Bool) (card : ℕ) (same : (c : ℕ) → (c ≡ card → ⊥) → test c ≡ other c) (passes : test card ≡ true) (fails : other card ≡ false) where
-  -- what passes the first test is worth so much more
-  pub one_away : (n : ℕ) → card < n → worth (cards_where test n) ≡ worth (cards_where other n) + (card + 1)
-  one_away zero l = absurd (omega arith)
-  one_away (suc n) l = by (λ below. one_away n below) (cases_lt card n)
-    where
-      by : (card < n → worth (cards_where test n) ≡ worth (cards_where other n) + (card + 1)) → (card < n) ⊎ (n ≤ card) → worth (cards_where test (suc n)) ≡ worth (cards_where other (suc n)) + (card + 1)
-      by before (inl below) =
-          let h = before below in
-          rw (where_push test n, where_push other n, same n (λ e. omega arith))
-          (omega (arith, worth-append (cards_where test n) (cond (other n) (n ∷ []) []), worth-append (cards_where other n) (cond (other n) (n ∷ []) [])))
-      by before (inr above) =
-          let e : n ≡ card = omega arith in
-          rw (e, where_next test card passes, where_other other card fails, where_agree test other card (λ c m. same c (λ f. omega arith)))
-          (omega (arith, worth-append (cards_where other card) (card ∷ [])))
+-- the cards that are left rise, and are cards of the deck
+pub left_rise : (n : ℕ) (gone : List ℕ) → IsStrictlyIncreasing (cards_left n gone)
+left_rise n gone = where_rise (λ c. not (is_in gone c)) n
 
-or_false : (b : Bool) → (b || false) ≡ b
-or_false true = refl
-or_false false = refl
+pub left_low : (n : ℕ) (gone : List ℕ) → All (λ a. a < n) (cards_left n gone)
+left_low n gone = where_low (λ c. not (is_in gone c)) n
 
--- one card more that is gone
-pub is_in-push : (gone : List ℕ) (card c : ℕ) → is_in (gone ++ card ∷ []) c ≡ (is_in gone c || card == c)
-is_in-push gone card c = list_any-append (λ x. x == c) gone (card ∷ []) ∙ ap (λ b. is_in gone c || b) (or_false (card == c))
+pub left_below : (n : ℕ) (gone : List ℕ) (a : ℕ) → Contains (cards_left n gone) a → a < n
+left_below n gone a c = All-contains (λ a. a < n) (cards_left n gone) a (left_low n gone) c
 
-or_true : (b : Bool) → (b || true) ≡ true
-or_true true = refl
-or_true false = refl
+pub left_at_most : (n : ℕ) (gone : List ℕ) → length (cards_left n gone) ≤ n
+left_at_most n gone = where_at_most (λ c. not (is_in gone c)) n
 
-pub left_low : (n : ℕ) (gone : List ℕ) (a : ℕ) → Contains (cards_left n gone) a → a < n
-left_low n gone a c = All-contains (λ a. a < n) (cards_left n gone) a (where_low (λ c. not (is_in gone c)) n) c
+-- one card more, which is gone or left
+pub left_empty : (gone : List ℕ) → cards_left 0 gone ≡ []
+left_empty gone = where_empty (λ c. not (is_in gone c))
 
--- a card that is drawn takes its worth away
-pub left_worth : (n : ℕ) (gone : List ℕ) (card : ℕ) → Contains (cards_left n gone) card → worth (cards_left n gone) ≡ worth (cards_left n (gone ++ card ∷ [])) + (card + 1)
-left_worth n gone card c =
-    one_away (λ c. not (is_in gone c)) (λ c. not (is_in (gone ++ card ∷ []) c)) card
-    (λ c other. rw (is_in-push gone card c, ne_eqb card c (λ e. other (sym e)), or_false) refl)
-    (where_passes (λ c. not (is_in gone c)) n card c)
-    (rw (is_in-push gone card card, eq-eqb card card refl, or_true) refl)
-    n (left_low n gone card c)
+pub count-gone : (n : ℕ) (gone : List ℕ) → is_in gone n ≡ true → length (cards_left (n + 1) gone) ≡ length (cards_left n gone)
+count-gone n gone e = count-other (λ c. not (is_in gone c)) n (ap not e)
+
+pub count-left : (n : ℕ) (gone : List ℕ) → is_in gone n ≡ false → length (cards_left (n + 1) gone) ≡ length (cards_left n gone) + 1
+count-left n gone e = count-next (λ c. not (is_in gone c)) n (ap not e)
+
+-- a card that is left stands behind the lower ones
+pub left_place : (n : ℕ) (gone : List ℕ) (card : ℕ) → card < n → is_in gone card ≡ false → slice_index (cards_left n gone) (length (cards_left card gone)) ≡ card
+left_place n gone card l e = where_place (λ c. not (is_in gone c)) n card l (ap not e)
 
 -- a card that is gone is one less at the most
 less_below : (gone : List ℕ) (card n : ℕ) → n ≤ card → cards_left n (card ∷ gone) ≡ cards_left n gone
@@ -218,6 +179,3 @@ none_gone (suc n) = where_next (λ c. not (is_in [] c)) n refl ∙ ap (λ (xs : 
 pub left_at_least : (n : ℕ) (gone : List ℕ) → n ≤ length (cards_left n gone) + length gone
 left_at_least n [] = omega (arith, ap length (none_gone n), length-numbers_below n)
 left_at_least n (card ∷ gone) = omega (arith, one_less gone card n, left_at_least n gone)
-
--- what a loop over the cards needs
-pub ruleset where_steps = (where_empty, count-next, count-other, where_place, where_at_most)

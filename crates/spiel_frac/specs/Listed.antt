@@ -1,0 +1,18 @@
+-- Numbers that are listed with a byte between them.
+use Rattle.std.specs.Prelude.{ℕ, List, [], ◌∷◌, Option, Some, None}
+use Rattle.std.specs.Option.{option_map}
+use Rattle.spiel_frac.specs.Cuts.{parts_of}
+use Rattle.spiel_frac.specs.Numbers.{decimal_number}
+
+abbrev pub with_number : Option ℕ → Option (List ℕ) → Option (List ℕ)
+with_number None rest = None
+with_number (Some n) rest = option_map (λ numbers. n ∷ numbers) rest
+
+-- the numbers below 2^32 that parts are, if each is one: digits without a leading zero, or just `0`
+abbrev pub numbers_of : List (List ℕ) → Option (List ℕ)
+numbers_of [] = Some []
+numbers_of (part ∷ parts) = with_number (decimal_number part) (numbers_of parts)
+
+-- the numbers between these bytes, if each part is one
+abbrev pub numbers_between : ℕ → List ℕ → Option (List ℕ)
+numbers_between mark word = numbers_of (parts_of mark word)
