@@ -1,12 +1,11 @@
-//! The two policies that each tree has, weight by weight.
-ghost use Rattle.std.specs.Prelude.{IfSome};
-ghost use Rattle.spiel_policy.specs.Profiles.{Fits};
+//! The two policies that each tree has, and the weights of a policy.
+ghost use Rattle.std.specs.Prelude.{◌≡◌, IfSome, SomeIff};
+ghost use Rattle.spiel_policy.specs.Profiles.{Fits, weight};
+ghost use Rattle.spiel_policy_trials.specs.Policies.{HasNumber, profile_of};
 
-use spiel_api::Game;
-use spiel_poker::Kuhn;
 use spiel_policy::{Policy, first_action, uniform};
-use spiel_samples::{Node, Table};
-use spiel_tree::{Tree, build};
+use spiel_samples::Node;
+use spiel_tree::Tree;
 use std::alloc::Global;
 
 /// A policy that each tree has.
@@ -18,9 +17,10 @@ pub enum Choice {
     First,
 }
 
-/// The policy for a tree, where there is memory.
+/// The policy for a tree. There is none only for want of memory.
 pub fn policy_for(alloc: Global, tree: &Tree, choice: Choice) -> Option<Policy>
-    ensures { IfSome result (λ policy. Fits tree.now policy) }
+    ensures profile { IfSome result (λ policy. policy ≡ profile_of choice tree.now) }
+    ensures fits { IfSome result (λ policy. Fits tree.now policy) }
 {
     match choice {
         Choice::Uniform => uniform(alloc, tree).ok(),
@@ -28,65 +28,17 @@ pub fn policy_for(alloc: Global, tree: &Tree, choice: Choice) -> Option<Policy>
     }
 }
 
-/// The weights at an information state, and their total.
-pub(super) type State = (&'static [u128], u128);
-
-/// The weight of a number, where there is one with this index.
+/// The weight of the number at an index, at an information state. There is none exactly where the tree
+/// has no such state, or the state no such number.
 pub fn weight_at(tree: &Tree, policy: &Policy, state: u32, index: u32) -> Option<u128>
     requires { Fits tree.now policy.now }
+    ensures { SomeIff result (HasNumber tree.now state index) (weight policy.now state index) }
 {
     if state < tree.states() && index < tree.action_count(state) {
         Some(policy.weight(state, index))
     } else {
         None
     }
-}
-
-/// Whether an information state has these weights, no more, and this total.
-fn is_state(tree: &Tree, policy: &Policy, state: u32, want: &State) -> bool
-    requires { Fits tree.now policy.now }
-{
-    let (weights, total) = *want;
-    if state >= tree.states()
-        || policy.total(state) != total
-        || tree.action_count(state) as usize != weights.len()
-    {
-        return false;
-    }
-    for index in 0..tree.action_count(state) {
-        if weight_at(tree, policy, state, index) != weights.get(index as usize).copied() {
-            return false;
-        }
-    }
-    true
-}
-
-/// Whether there are so many information states, and the policy has these weights there.
-pub(super) fn are_states(tree: &Tree, policy: &Policy, want: &[State]) -> bool
-    requires { Fits tree.now policy.now }
-{
-    if tree.states() as usize != want.len() {
-        return false;
-    }
-    for state in 0..tree.states() {
-        if !is_state(tree, policy, state, &want[state as usize]) {
-            return false;
-        }
-    }
-    true
-}
-
-/// Whether a game has these information states, no more, and the policy these weights.
-fn has_states<G: Game>(alloc: Global, game: &G, choice: Choice, want: &[State]) -> bool
-    requires { G.is_game game.now }
-{
-    let Ok(tree) = build(alloc, game, 1000) else {
-        return false;
-    };
-    let Some(policy) = policy_for(alloc, &tree, choice) else {
-        return false;
-    };
-    are_states(&tree, &policy, want)
 }
 
 /// Chance draws, and each of three players moves once, of whom player 0 has one number alone. What
@@ -109,24 +61,3 @@ pub const THREE: &[Node] = &[
     Node::Terminal(&[1, 1, -2]),
     Node::Terminal(&[0, -6, 2]),
 ];
-
-const THREE_UNIFORM: [State; 3] = [(&[1], 1), (&[1, 1], 2), (&[1, 1, 1], 3)];
-
-const THREE_FIRST: [State; 3] = [(&[1], 1), (&[1, 0], 1), (&[1, 0, 0], 1)];
-
-pub(super) const KUHN_UNIFORM: [State; 12] = [(&[1, 1], 2); 12];
-
-pub(super) const KUHN_FIRST: [State; 12] = [(&[1, 0], 1); 12];
-
-#[test]
-fn each_tree_has_two_policies(rt: HostRuntime) {
-    let kuhn = Kuhn::new(2).unwrap();
-    assert!(rt; has_states(rt.alloc(), &kuhn, Choice::Uniform, &KUHN_UNIFORM));
-    assert!(rt; has_states(rt.alloc(), &kuhn, Choice::First, &KUHN_FIRST));
-    let three = Table::new(3, 1, THREE).expect(&rt, "three players");
-    assert!(rt; has_states(rt.alloc(), &three, Choice::Uniform, &THREE_UNIFORM));
-    assert!(rt; has_states(rt.alloc(), &three, Choice::First, &THREE_FIRST));
-    let over = Table::new(1, 1, &[]).expect(&rt, "one player");
-    assert!(rt; has_states(rt.alloc(), &over, Choice::Uniform, &[]));
-    assert!(rt; has_states(rt.alloc(), &over, Choice::First, &[]));
-}

@@ -1,12 +1,11 @@
 //! What `read_policy` answers to whole files: the policy with its weights, or the fault.
 
-use super::policies::{State, are_states};
+use super::state_weights::{State, are_states};
 use spiel_frac::{NoMemory, Text};
 use spiel_policy::{PolicyFault, read_policy};
 use spiel_samples::{Node, Table};
 use spiel_tree::{Tree, build};
 use std::alloc::Global;
-use std::test::Fail;
 
 /// Where no table here has a node: the play is over.
 pub(super) const OVER: u32 = 9;
@@ -54,6 +53,45 @@ pub(super) fn joined(alloc: Global, parts: &[&[u8]]) -> Result<Text, NoMemory> {
     Ok(text)
 }
 
+/// Texts that each stand between the same front and back in a file, and what comes of the file.
+pub(super) struct Files {
+    pub front: &'static [u8],
+    pub back: &'static [u8],
+    pub rows: &'static [(&'static [u8], Answer)],
+}
+
+/// Whether a text between the front and the back comes to this.
+fn is_row(alloc: Global, tree: &Tree, files: &Files, text: &[u8], answer: &Answer) -> bool {
+    match joined(alloc, &[files.front, text, files.back]) {
+        Ok(file) => comes_to(alloc, tree, file.bytes(), answer),
+        Err(_) => false,
+    }
+}
+
+/// The first row of which something else comes, if there is one.
+pub(super) fn first_wrong(alloc: Global, tree: &Tree, files: &Files) -> Option<usize> {
+    for (i, (text, answer)) in files.rows.iter().enumerate() {
+        if !is_row(alloc, tree, files, text, answer) {
+            return Some(i);
+        }
+    }
+    None
+}
+
+/// The first row of which something else comes for a game that is given as a table. It is behind the last
+/// where there is no such game.
+pub(super) fn wrong_row(
+    alloc: Global,
+    players: u32,
+    nodes: &'static [Node],
+    files: &Files,
+) -> Option<usize> {
+    match tree_of(alloc, players, nodes) {
+        Some(tree) => first_wrong(alloc, &tree, files),
+        None => Some(files.rows.len()),
+    }
+}
+
 /// Player 0 has three numbers, and after two of them player 1, who sees the same text and doesn't know
 /// which, has two.
 const TWO: &[Node] = &[
@@ -81,176 +119,163 @@ const ACTION_0: Answer = Answer::Fault(PolicyFault::Action { entry: 0 });
 
 const SUM_0: Answer = Answer::Fault(PolicyFault::Sum { entry: 0 });
 
-/// A file, and what comes of it.
-type Row = (&'static [u8], Answer);
-
 /// Files up to their heads.
-const HEADS: [Row; 27] = [
-    // cut short, followed by more, a comma too many
-    (b"", JSON),
-    (br#"{"policy":1,"states":["#, JSON),
-    (br#"{"policy":1,"states":[]}x"#, JSON),
-    (br#"{"policy":1,"states":[],}"#, JSON),
-    // the bytes before the head: no UTF-8, a byte order mark, a line feed inside a text
-    (b"{\"policy\":2,\"states\":[\"\xff\"]}", JSON),
-    (b"\xef\xbb\xbf{\"policy\":2,\"states\":[]}", JSON),
-    (b"{\"policy\":2,\"states\":[\"\n\"]}", JSON),
-    // half of a pair of surrogates, and a number that is no float
-    (br#"{"policy":2,"states":["\ud800"]}"#, JSON),
-    (br#"{"policy":2,"states":[1e999]}"#, JSON),
-    // a member is missing, is one too many, or has the wrong kind: the head before the entries
-    (br#"{"states":[7]}"#, HEAD),
-    (br#"{"policy":1}"#, HEAD),
-    (br#"{"policy":1,"states":[7],"more":0}"#, HEAD),
-    (br#"{"policy":2,"states":[7]}"#, HEAD),
-    (br#"{"policy":1.0,"states":[7]}"#, HEAD),
-    (br#"{"policy":1e0,"states":[7]}"#, HEAD),
-    (br#"{"policy":"1","states":[7]}"#, HEAD),
-    (br#"{"policy":18446744073709551617,"states":[7]}"#, HEAD),
-    (br#"{"policy":1,"states":{}}"#, HEAD),
-    (br#"{"Policy":1,"states":[7]}"#, HEAD),
-    (br#"["policy",1,"states",[7]]"#, HEAD),
-    // of a member that is written twice the last counts
-    (br#"{"policy":1,"policy":2,"states":[7]}"#, HEAD),
-    (br#"{"policy":1,"states":[7],"states":null}"#, HEAD),
-    (br#"{"policy":2,"policy":1,"states":[7]}"#, SHAPE_0),
-    (br#"{"policy":1,"states":null,"states":[7]}"#, SHAPE_0),
-    // the first information state without an entry
-    (br#"{"policy":1,"states":[]}"#, Answer::Missing(0, b"a")),
-    (
-        br#"{"policy":1,"states":[{"player":0,"state":"a","actions":[[0,1]]}]}"#,
-        Answer::Missing(1, b"a"),
-    ),
-    (
-        br#"{"policy":1,"states":[{"player":1,"state":"a","actions":[[0,1]]}]}"#,
-        Answer::Missing(0, b"a"),
-    ),
-];
+static HEADS: Files = Files {
+    front: b"",
+    back: b"",
+    rows: &[
+        // cut short, followed by more, a comma too many
+        (b"", JSON),
+        (br#"{"policy":1,"states":["#, JSON),
+        (br#"{"policy":1,"states":[]}x"#, JSON),
+        (br#"{"policy":1,"states":[],}"#, JSON),
+        // the bytes before the head: no UTF-8, a byte order mark, a line feed inside a text
+        (b"{\"policy\":2,\"states\":[\"\xff\"]}", JSON),
+        (b"\xef\xbb\xbf{\"policy\":2,\"states\":[]}", JSON),
+        (b"{\"policy\":2,\"states\":[\"\n\"]}", JSON),
+        // half of a pair of surrogates, and a number that is no float
+        (br#"{"policy":2,"states":["\ud800"]}"#, JSON),
+        (br#"{"policy":2,"states":[1e999]}"#, JSON),
+        // a member is missing, is one too many, or has the wrong kind: the head before the entries
+        (br#"{"states":[7]}"#, HEAD),
+        (br#"{"policy":1}"#, HEAD),
+        (br#"{"policy":1,"states":[7],"more":0}"#, HEAD),
+        (br#"{"policy":2,"states":[7]}"#, HEAD),
+        (br#"{"policy":1.0,"states":[7]}"#, HEAD),
+        (br#"{"policy":1e0,"states":[7]}"#, HEAD),
+        (br#"{"policy":"1","states":[7]}"#, HEAD),
+        (br#"{"policy":18446744073709551617,"states":[7]}"#, HEAD),
+        (br#"{"policy":1,"states":{}}"#, HEAD),
+        (br#"{"Policy":1,"states":[7]}"#, HEAD),
+        (br#"["policy",1,"states",[7]]"#, HEAD),
+        // of a member that is written twice the last counts
+        (br#"{"policy":1,"policy":2,"states":[7]}"#, HEAD),
+        (br#"{"policy":1,"states":[7],"states":null}"#, HEAD),
+        (br#"{"policy":2,"policy":1,"states":[7]}"#, SHAPE_0),
+        (br#"{"policy":1,"states":null,"states":[7]}"#, SHAPE_0),
+        // the first information state without an entry
+        (br#"{"policy":1,"states":[]}"#, Answer::Missing(0, b"a")),
+        (
+            br#"{"policy":1,"states":[{"player":0,"state":"a","actions":[[0,1]]}]}"#,
+            Answer::Missing(1, b"a"),
+        ),
+        (
+            br#"{"policy":1,"states":[{"player":1,"state":"a","actions":[[0,1]]}]}"#,
+            Answer::Missing(0, b"a"),
+        ),
+    ],
+};
 
 /// What the list of entries holds, before an entry by which player 1, who sees `a`, takes 1.
-const ENTRIES: [Row; 42] = [
-    (br#"{"player":0,"state":"a","actions":[[0,1]]}"#, BOTH),
-    (
-        b" {\n\"actions\" : [ [ 0 , 1 ] ] ,\r\n\t\"state\" : \"a\" , \"player\" : 0 } ",
-        BOTH,
-    ),
-    (
-        br#"{"play\u0065r":0,"state":"\u0061","actions":[[0,1]]}"#,
-        BOTH,
-    ),
-    // of a member that is written twice the last counts
-    (
-        br#"{"player":1,"state":7,"actions":0,"player":0,"state":"a","actions":[[0,1]]}"#,
-        BOTH,
-    ),
-    (
-        br#"{"player":0,"state":"a","actions":[[0,1]],"player":"0"}"#,
-        SHAPE_0,
-    ),
-    (
-        br#"{"player":0,"state":"a","actions":[[0,1]],"state":"b"}"#,
-        UNKNOWN_0,
-    ),
-    (
-        br#"{"player":0,"state":"a","actions":[[0,1]],"actions":[]}"#,
-        SUM_0,
-    ),
-    // no object of three members
-    (br#"7"#, SHAPE_0),
-    (br#"null"#, SHAPE_0),
-    (br#"[0,"a",[[0,1]]]"#, SHAPE_0),
-    (br#"{"state":"a","actions":[[0,1]]}"#, SHAPE_0),
-    (br#"{"player":0,"actions":[[0,1]]}"#, SHAPE_0),
-    (br#"{"player":0,"state":"a"}"#, SHAPE_0),
-    (br#"{"player":0,"state":"a","action":[[0,1]]}"#, SHAPE_0),
-    (
-        br#"{"player":0,"state":"a","actions":[[0,1]],"more":0}"#,
-        SHAPE_0,
-    ),
-    // the player
-    (br#"{"player":"0","state":"a","actions":[[0,1]]}"#, SHAPE_0),
-    (br#"{"player":null,"state":"a","actions":[[0,1]]}"#, SHAPE_0),
-    (br#"{"player":0.0,"state":"a","actions":[[0,1]]}"#, SHAPE_0),
-    (br#"{"player":0e0,"state":"a","actions":[[0,1]]}"#, SHAPE_0),
-    (br#"{"player":-0,"state":"a","actions":[[0,1]]}"#, SHAPE_0),
-    (br#"{"player":-1,"state":"a","actions":[[0,1]]}"#, SHAPE_0),
-    (
-        br#"{"player":4294967296,"state":"a","actions":[[0,1]]}"#,
-        SHAPE_0,
-    ),
-    (
-        br#"{"player":18446744073709551616,"state":"a","actions":[[0,1]]}"#,
-        SHAPE_0,
-    ),
-    (
-        br#"{"player":4294967295,"state":"a","actions":[[0,1]]}"#,
-        UNKNOWN_0,
-    ),
-    // the text
-    (br#"{"player":0,"state":0,"actions":[[0,1]]}"#, SHAPE_0),
-    (br#"{"player":0,"state":["a"],"actions":[[0,1]]}"#, SHAPE_0),
-    (br#"{"player":0,"state":"","actions":[[0,1]]}"#, UNKNOWN_0),
-    (br#"{"player":0,"state":"A","actions":[[0,1]]}"#, UNKNOWN_0),
-    (br#"{"player":0,"state":"a ","actions":[[0,1]]}"#, UNKNOWN_0),
-    (
-        br#"{"player":0,"state":"\ud83c\udccf","actions":[[0,1]]}"#,
-        UNKNOWN_0,
-    ),
-    (br#"{"player":2,"state":"a","actions":[[0,1]]}"#, UNKNOWN_0),
-    // the pairs
-    (br#"{"player":0,"state":"a","actions":{"0":1}}"#, SHAPE_0),
-    (br#"{"player":0,"state":"a","actions":"0"}"#, SHAPE_0),
-    // of two faults in one entry, the earlier kind
-    (br#"{"player":2,"state":"b","actions":[[0,1.0]]}"#, SHAPE_0),
-    (br#"{"player":0,"state":"b","actions":[[3,1]]}"#, UNKNOWN_0),
-    (br#"{"player":0,"state":"b","actions":[]}"#, UNKNOWN_0),
-    // the entry that follows is for the same information state, and is fair
-    (br#"{"player":1,"state":"a","actions":[[0,1]]}"#, REPEATED_1),
-    // number 2 isn't one of player 1
-    (br#"{"player":1,"state":"a","actions":[[2,1]]}"#, ACTION_0),
-    (br#"{"player":1,"state":"a","actions":[]}"#, SUM_0),
-    // an entry between
-    (
-        br#"{"player":0,"state":"a","actions":[[0,1]]},{"player":0,"state":"a","actions":[[3,1]]}"#,
-        REPEATED_1,
-    ),
-    (
-        br#"{"player":0,"state":"a","actions":[[0,1]]},{"player":0,"state":"a","actions":[[0,1.0]]}"#,
-        SHAPE_1,
-    ),
-    (br#"{"player":0,"state":"a","actions":[[0,1]]},[]"#, SHAPE_1),
-];
+static ENTRIES: Files = Files {
+    front: br#"{"policy":1,"states":["#,
+    back: br#",{"player":1,"state":"a","actions":[[1,1]]}]}"#,
+    rows: &[
+        (br#"{"player":0,"state":"a","actions":[[0,1]]}"#, BOTH),
+        (
+            b" {\n\"actions\" : [ [ 0 , 1 ] ] ,\r\n\t\"state\" : \"a\" , \"player\" : 0 } ",
+            BOTH,
+        ),
+        (
+            br#"{"play\u0065r":0,"state":"\u0061","actions":[[0,1]]}"#,
+            BOTH,
+        ),
+        // of a member that is written twice the last counts
+        (
+            br#"{"player":1,"state":7,"actions":0,"player":0,"state":"a","actions":[[0,1]]}"#,
+            BOTH,
+        ),
+        (
+            br#"{"player":0,"state":"a","actions":[[0,1]],"player":"0"}"#,
+            SHAPE_0,
+        ),
+        (
+            br#"{"player":0,"state":"a","actions":[[0,1]],"state":"b"}"#,
+            UNKNOWN_0,
+        ),
+        (
+            br#"{"player":0,"state":"a","actions":[[0,1]],"actions":[]}"#,
+            SUM_0,
+        ),
+        // no object of three members
+        (br#"7"#, SHAPE_0),
+        (br#"null"#, SHAPE_0),
+        (br#"[0,"a",[[0,1]]]"#, SHAPE_0),
+        (br#"{"state":"a","actions":[[0,1]]}"#, SHAPE_0),
+        (br#"{"player":0,"actions":[[0,1]]}"#, SHAPE_0),
+        (br#"{"player":0,"state":"a"}"#, SHAPE_0),
+        (br#"{"player":0,"state":"a","action":[[0,1]]}"#, SHAPE_0),
+        (
+            br#"{"player":0,"state":"a","actions":[[0,1]],"more":0}"#,
+            SHAPE_0,
+        ),
+        // the player
+        (br#"{"player":"0","state":"a","actions":[[0,1]]}"#, SHAPE_0),
+        (br#"{"player":null,"state":"a","actions":[[0,1]]}"#, SHAPE_0),
+        (br#"{"player":0.0,"state":"a","actions":[[0,1]]}"#, SHAPE_0),
+        (br#"{"player":0e0,"state":"a","actions":[[0,1]]}"#, SHAPE_0),
+        (br#"{"player":-0,"state":"a","actions":[[0,1]]}"#, SHAPE_0),
+        (br#"{"player":-1,"state":"a","actions":[[0,1]]}"#, SHAPE_0),
+        (
+            br#"{"player":4294967296,"state":"a","actions":[[0,1]]}"#,
+            SHAPE_0,
+        ),
+        (
+            br#"{"player":18446744073709551616,"state":"a","actions":[[0,1]]}"#,
+            SHAPE_0,
+        ),
+        (
+            br#"{"player":4294967295,"state":"a","actions":[[0,1]]}"#,
+            UNKNOWN_0,
+        ),
+        // the text
+        (br#"{"player":0,"state":0,"actions":[[0,1]]}"#, SHAPE_0),
+        (br#"{"player":0,"state":["a"],"actions":[[0,1]]}"#, SHAPE_0),
+        (br#"{"player":0,"state":"","actions":[[0,1]]}"#, UNKNOWN_0),
+        (br#"{"player":0,"state":"A","actions":[[0,1]]}"#, UNKNOWN_0),
+        (br#"{"player":0,"state":"a ","actions":[[0,1]]}"#, UNKNOWN_0),
+        (
+            br#"{"player":0,"state":"\ud83c\udccf","actions":[[0,1]]}"#,
+            UNKNOWN_0,
+        ),
+        (br#"{"player":2,"state":"a","actions":[[0,1]]}"#, UNKNOWN_0),
+        // the pairs
+        (br#"{"player":0,"state":"a","actions":{"0":1}}"#, SHAPE_0),
+        (br#"{"player":0,"state":"a","actions":"0"}"#, SHAPE_0),
+        // of two faults in one entry, the earlier kind
+        (br#"{"player":2,"state":"b","actions":[[0,1.0]]}"#, SHAPE_0),
+        (br#"{"player":0,"state":"b","actions":[[3,1]]}"#, UNKNOWN_0),
+        (br#"{"player":0,"state":"b","actions":[]}"#, UNKNOWN_0),
+        // the entry that follows is for the same information state, and is fair
+        (br#"{"player":1,"state":"a","actions":[[0,1]]}"#, REPEATED_1),
+        // number 2 isn't one of player 1
+        (br#"{"player":1,"state":"a","actions":[[2,1]]}"#, ACTION_0),
+        (br#"{"player":1,"state":"a","actions":[]}"#, SUM_0),
+        // an entry between
+        (
+            br#"{"player":0,"state":"a","actions":[[0,1]]},{"player":0,"state":"a","actions":[[3,1]]}"#,
+            REPEATED_1,
+        ),
+        (
+            br#"{"player":0,"state":"a","actions":[[0,1]]},{"player":0,"state":"a","actions":[[0,1.0]]}"#,
+            SHAPE_1,
+        ),
+        (br#"{"player":0,"state":"a","actions":[[0,1]]},[]"#, SHAPE_1),
+    ],
+};
 
-/// Whether entries, before one by which player 1 takes 1, come to the answer of their row.
-fn is_row_of_entries(alloc: Global, tree: &Tree, row: &Row) -> bool {
-    let (entries, answer) = *row;
-    let file = joined(
-        alloc,
-        &[
-            br#"{"policy":1,"states":["#,
-            entries,
-            br#",{"player":1,"state":"a","actions":[[1,1]]}]}"#,
-        ],
-    );
-    match file {
-        Ok(file) => comes_to(alloc, tree, file.bytes(), &answer),
-        Err(_) => false,
-    }
+#[test]
+fn files_are_told_apart_by_their_heads(rt: HostRuntime) {
+    assert_eq!(rt; wrong_row(rt.alloc(), 2, TWO, &HEADS), None);
 }
 
 #[test]
-fn policy_files_are_told_apart(rt: HostRuntime) {
-    let tree = tree_of(rt.alloc(), 2, TWO).expect(&rt, "two players");
-    for (i, (file, answer)) in HEADS.iter().enumerate() {
-        assert!(rt; comes_to(rt.alloc(), &tree, file, answer), "head {i}");
-    }
-    for (i, row) in ENTRIES.iter().enumerate() {
-        assert!(rt; is_row_of_entries(rt.alloc(), &tree, row), "entry {i}");
-    }
+fn files_are_told_apart_by_their_entries(rt: HostRuntime) {
+    assert_eq!(rt; wrong_row(rt.alloc(), 2, TWO, &ENTRIES), None);
 }
 
 /// Entries that have this fault where they are the second, behind one by which player 1 takes 1.
-const FAULTY: [(&[u8], PolicyFault); 7] = [
+static FAULTY: [(&[u8], PolicyFault); 7] = [
     (br#"{}"#, PolicyFault::Shape { entry: 1 }),
     (
         br#"{"player":0,"state":"a","actions":[[0,"1/0"]]}"#,
@@ -299,17 +324,35 @@ fn is_second(alloc: Global, tree: &Tree, second: &[u8], third: &[u8], fault: Pol
 
 /// Whether a faulty entry decides before each other.
 fn decides(alloc: Global, tree: &Tree, entry: &[u8], fault: PolicyFault) -> bool {
-    FAULTY
-        .iter()
-        .all(|(other, _)| is_second(alloc, tree, entry, other, fault))
+    for (other, _) in &FAULTY {
+        if !is_second(alloc, tree, entry, other, fault) {
+            return false;
+        }
+    }
+    true
+}
+
+/// The first faulty entry that doesn't decide before each other, if there is one.
+fn first_undecided(alloc: Global, tree: &Tree) -> Option<usize> {
+    for (i, (entry, fault)) in FAULTY.iter().enumerate() {
+        if !decides(alloc, tree, entry, *fault) {
+            return Some(i);
+        }
+    }
+    None
+}
+
+/// Whether each faulty entry decides before each other.
+fn all_decide(alloc: Global) -> bool {
+    match tree_of(alloc, 2, TWO) {
+        Some(tree) => first_undecided(alloc, &tree).is_none(),
+        None => false,
+    }
 }
 
 #[test]
 fn the_first_faulty_entry_decides(rt: HostRuntime) {
-    let tree = tree_of(rt.alloc(), 2, TWO).expect(&rt, "two players");
-    for (i, (entry, fault)) in FAULTY.iter().enumerate() {
-        assert!(rt; decides(rt.alloc(), &tree, entry, *fault), "entry {i}");
-    }
+    assert!(rt; all_decide(rt.alloc()));
 }
 
 /// A file that is nested so deep, by an entry that is an array in an array, and so on.
@@ -324,12 +367,25 @@ fn nested(alloc: Global, depth: usize) -> Result<Text, NoMemory> {
     Ok(file)
 }
 
+/// Whether a file that is nested so deep comes to this.
+fn nests_to(alloc: Global, tree: &Tree, depth: usize, answer: &Answer) -> bool {
+    match nested(alloc, depth) {
+        Ok(file) => comes_to(alloc, tree, file.bytes(), answer),
+        Err(_) => false,
+    }
+}
+
+/// Whether a file may be nested 127 deep, and no deeper.
+fn nests_127_deep(alloc: Global) -> bool {
+    match tree_of(alloc, 2, TWO) {
+        Some(tree) => {
+            nests_to(alloc, &tree, 127, &SHAPE_0) && nests_to(alloc, &tree, 128, &JSON)
+        }
+        None => false,
+    }
+}
+
 #[test]
-fn files_nest_at_most_127_deep(rt: HostRuntime) -> Result<(), Fail> {
-    let tree = tree_of(rt.alloc(), 2, TWO).expect(&rt, "two players");
-    let deep = nested(rt.alloc(), 127)?;
-    assert!(rt; comes_to(rt.alloc(), &tree, deep.bytes(), &SHAPE_0));
-    let deeper = nested(rt.alloc(), 128)?;
-    assert!(rt; comes_to(rt.alloc(), &tree, deeper.bytes(), &JSON));
-    Ok(())
+fn files_nest_at_most_127_deep(rt: HostRuntime) {
+    assert!(rt; nests_127_deep(rt.alloc()));
 }

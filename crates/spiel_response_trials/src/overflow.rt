@@ -44,7 +44,7 @@ const AFTER_0: Node = Node::Decision(0, b"dark", &[3, 4]);
 
 const AFTER_1: Node = Node::Decision(0, b"dark", &[4, 5]);
 
-const ROWS: [Row; 11] = [
+static ROWS: [Row; 11] = [
     // a = b = m - 1, c = 1: player 0's sizes are 2 * m * m - 2, and all together 2^127 - 2
     Row {
         players: 4,

@@ -90,7 +90,7 @@ pub(super) const UNEVEN: &[Node] = &[
     Node::Terminal(&[6, 3]),
 ];
 
-const ROWS: [Row; 8] = [
+static ROWS: [Row; 8] = [
     // the game is over at its root
     Row {
         players: 2,
