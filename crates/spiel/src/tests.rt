@@ -3,6 +3,7 @@ ghost use Rattle.std.specs.Prelude.{◌<◌};
 
 mod commands;
 mod joint_steps;
+mod pairs;
 mod policies;
 mod transforms;
 
