@@ -5,3 +5,4 @@ pub mod Laws
 pub mod States
 pub mod Walks
 pub mod Deck
+pub mod FaultTexts

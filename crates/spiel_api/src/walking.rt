@@ -1,11 +1,12 @@
 //! From a list of numbers to a state.
-ghost use Rattle.std.specs.Prelude.{◌≡◌, ◌<◌, IsTrue, ◌↔◌, IfOk, IfErr, OnOk, MatchResult};
+ghost use Rattle.std.specs.Prelude.{◌≡◌, ◌<◌, IsTrue, ◌↔◌, IfOk, IfErr, OnOk, MatchResult, Some};
 ghost use Rattle.std.specs.Bool.{MatchBool};
 ghost use Rattle.std.specs.List.{Contains};
 ghost use Rattle.spiel_api.specs.Rules.{next_of};
 ghost use Rattle.spiel_api.specs.Place.{IsOutside};
 ghost use Rattle.spiel_api.specs.States.{StandsFor};
 ghost use Rattle.spiel_api.specs.Walks.{IsFinished, HasWalkFault, walk_fault, IsComputed};
+ghost use Rattle.spiel_api.specs.FaultTexts.{fault_text};
 
 use crate::{Game, Place};
 use spiel_frac::NoMemory;
@@ -25,6 +26,8 @@ pub enum WalkFault {
 }
 
 impl fmt::Display for WalkFault {
+    ghost output = { λ fault. Some (fault_text fault) };
+
     fn fmt<W: fmt::Write>(&self, f: &mut fmt::Formatter<W>) -> fmt::Result {
         match self {
             WalkFault::Illegal { at } => write!(f, "illegal action at {at}"),

@@ -1,5 +1,5 @@
 //! Liar's dice of two players.
-ghost use Rattle.std.specs.Prelude.{◌≡◌, ◌<◌, ◌≤◌, ◌*◌, ◌+◌, ◌++◌, ◌∷◌, ◌==◌, ◌↔◌, length, replicate, codes, count_by, IsOk, IfOk, OnOk, if◌then◌else◌};
+ghost use Rattle.std.specs.Prelude.{◌≡◌, ◌<◌, ◌≤◌, ◌*◌, ◌+◌, ◌++◌, ◌∷◌, ◌==◌, ◌↔◌, length, replicate, codes, count_by, IsOk, IfOk, OnOk, if◌then◌else◌, Some};
 ghost use Rattle.std.specs.Fmt.{decimal};
 ghost use Rattle.spiel_frac.specs.Adding.{Adds};
 ghost use Rattle.spiel_dice.specs.LiarsDice.{between, liar, is_rolling, all_dice, dice_of, calls_of, numbers_after, faces_of, listed, call_name, shown, liars_dice_rules};
@@ -16,6 +16,8 @@ use std::fmt;
 pub struct BadDice;
 
 impl fmt::Display for BadDice {
+    ghost output = { λ _. Some (codes "the number of dice isn't 1 to 5, or that of sides isn't 2 to 20") };
+
     fn fmt<W: fmt::Write>(&self, f: &mut fmt::Formatter<W>) -> fmt::Result {
         write!(
             f,

@@ -1,5 +1,5 @@
 //! Goofspiel of two players (Ross 1971, "Goofspiel: the game of pure strategy").
-ghost use Rattle.std.specs.Prelude.{◌≡◌, ◌<◌, ◌↔◌, ◌++◌, ◌∷◌, ◌+◌, [], IsOk, IfOk, slice_get, flat_map, codes};
+ghost use Rattle.std.specs.Prelude.{◌≡◌, ◌<◌, ◌↔◌, ◌++◌, ◌∷◌, ◌+◌, [], IsOk, IfOk, slice_get, flat_map, codes, Some};
 ghost use Rattle.std.specs.List.{All, Contains};
 ghost use Rattle.std.specs.Fmt.{decimal};
 ghost use Rattle.spiel_frac.specs.Adding.{Adds};
@@ -23,6 +23,8 @@ use std::fmt;
 pub struct BadCards;
 
 impl fmt::Display for BadCards {
+    ghost output = { λ _. Some (codes "the number of cards isn't 1 to 20") };
+
     fn fmt<W: fmt::Write>(&self, f: &mut fmt::Formatter<W>) -> fmt::Result {
         write!(f, "the number of cards isn't 1 to 20")
     }

@@ -1,4 +1,4 @@
-ghost use Rattle.std.specs.Prelude.{IsTrue};
+ghost use Rattle.std.specs.Prelude.{IsTrue, Some, codes};
 ghost use Rattle.spiel_io.specs.Outside.{ShelfState, SinkState};
 ghost use Rattle.spiel_io.specs.Steps.{Begins, Reads, Takes};
 
@@ -10,6 +10,8 @@ use std::fmt;
 pub struct Failed;
 
 impl fmt::Display for Failed {
+    ghost output = { λ _. Some (codes "a read or a write failed") };
+
     fn fmt<W: fmt::Write>(&self, f: &mut fmt::Formatter<W>) -> fmt::Result {
         write!(f, "a read or a write failed")
     }

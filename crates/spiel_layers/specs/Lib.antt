@@ -12,3 +12,4 @@ pub mod StartAt
 pub mod StartAtLaws
 pub mod TurnBased
 pub mod TurnBasedLaws
+pub mod FaultTexts

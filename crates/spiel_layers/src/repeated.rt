@@ -4,6 +4,7 @@ ghost use Rattle.std.specs.Bool.{MatchBool};
 ghost use Rattle.std.specs.Option.{MatchOption};
 ghost use Rattle.spiel_layers.specs.Repeated.{repeated_rules, piece_of, before_piece, repeat_fault, CanRepeat, HasRepeatFault};
 ghost use Rattle.spiel_layers.specs.RepeatedState.{IsRepeatedAt};
+ghost use Rattle.spiel_layers.specs.FaultTexts.{fault_text};
 
 use crate::told::push_told;
 use spiel_api::{Game, Place};
@@ -24,6 +25,8 @@ pub enum RepeatFault {
 }
 
 impl fmt::Display for RepeatFault {
+    ghost output = { λ fault. Some (fault_text fault) };
+
     fn fmt<W: fmt::Write>(&self, f: &mut fmt::Formatter<W>) -> fmt::Result {
         match self {
             RepeatFault::NotOneShot => write!(f, "stage game is not one-shot"),

@@ -6,3 +6,4 @@ pub mod Matrix
 pub mod MatrixPlays
 pub mod MatrixLaws
 pub mod Named
+pub mod FaultTexts

@@ -1,4 +1,6 @@
 //! Why parts make no matrix game.
+ghost use Rattle.std.specs.Prelude.{Some};
+ghost use Rattle.spiel_matrix.specs.FaultTexts.{fault_text};
 
 use spiel_frac::NoMemory;
 use std::error::Error;
@@ -17,6 +19,8 @@ pub enum MatrixFault {
 }
 
 impl fmt::Display for MatrixFault {
+    ghost output = { λ fault. Some (fault_text fault) };
+
     fn fmt<W: fmt::Write>(&self, f: &mut fmt::Formatter<W>) -> fmt::Result {
         match self {
             MatrixFault::Shape => write!(f, "wrong shape"),

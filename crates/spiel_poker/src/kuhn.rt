@@ -1,5 +1,5 @@
 //! Kuhn poker of two players (Kuhn 1950, "A simplified two-person poker").
-ghost use Rattle.std.specs.Prelude.{◌≡◌, ◌<◌, ℕ, ◌↔◌, [], ◌∷◌, ◌++◌, IsOk, nat_lt, if◌then◌else◌};
+ghost use Rattle.std.specs.Prelude.{◌≡◌, ◌<◌, ℕ, ◌↔◌, [], ◌∷◌, ◌++◌, IsOk, nat_lt, if◌then◌else◌, Some, codes};
 ghost use Rattle.spiel_poker.specs.KuhnState.{told, TakesWord};
 
 use spiel_api::{Game, Place};
@@ -13,6 +13,8 @@ use std::fmt;
 pub struct BadPlayers;
 
 impl fmt::Display for BadPlayers {
+    ghost output = { λ _. Some (codes "the number of players isn't 2") };
+
     fn fmt<W: fmt::Write>(&self, f: &mut fmt::Formatter<W>) -> fmt::Result {
         write!(f, "the number of players isn't 2")
     }

@@ -6,3 +6,4 @@ pub mod Profiles
 pub mod Reading
 pub mod Weighing
 pub mod Writing
+pub mod FaultTexts

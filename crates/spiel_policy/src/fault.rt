@@ -1,3 +1,6 @@
+ghost use Rattle.std.specs.Prelude.{Some};
+ghost use Rattle.spiel_policy.specs.FaultTexts.{fault_text};
+
 use spiel_frac::NoMemory;
 use std::alloc::AllocError;
 use std::error::Error;
@@ -33,6 +36,8 @@ pub enum PolicyFault {
 }
 
 impl fmt::Display for PolicyFault {
+    ghost output = { λ fault. Some (fault_text fault) };
+
     fn fmt<W: fmt::Write>(&self, f: &mut fmt::Formatter<W>) -> fmt::Result {
         match self {
             PolicyFault::Json => write!(f, "not JSON"),

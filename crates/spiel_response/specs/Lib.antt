@@ -10,3 +10,4 @@ pub mod Slots
 pub mod Summed
 pub mod Values
 pub mod Weighed
+pub mod FaultTexts

@@ -1,3 +1,6 @@
+ghost use Rattle.std.specs.Prelude.{Some};
+ghost use Rattle.spiel_response.specs.FaultTexts.{fault_text};
+
 use spiel_frac::NoMemory;
 use std::error::Error;
 use std::fmt;
@@ -12,6 +15,8 @@ pub enum JudgeFault {
 }
 
 impl fmt::Display for JudgeFault {
+    ghost output = { λ fault. Some (fault_text fault) };
+
     fn fmt<W: fmt::Write>(&self, f: &mut fmt::Formatter<W>) -> fmt::Result {
         match self {
             JudgeFault::Overflow => write!(f, "numbers pass 127 bits"),

@@ -10,3 +10,4 @@ pub mod Shown
 pub mod States
 pub mod Trees
 pub mod Walked
+pub mod FaultTexts

@@ -1,9 +1,10 @@
-ghost use Rattle.std.specs.Prelude.{◌≡◌, ◌<◌, ◌≤◌, ◌^◌, length, pos, slice_index, slice_index_or, Contains, IfNone, IfSome};
+ghost use Rattle.std.specs.Prelude.{◌≡◌, ◌<◌, ◌≤◌, ◌^◌, length, pos, slice_index, slice_index_or, Contains, IfNone, IfSome, Some};
 ghost use Rattle.spiel_api.specs.declared.place.Place.TheVariants.{Chance, End};
 ghost use Rattle.spiel_tree.specs.Flat.{IsBefore, row_at, rows_of, way_to};
 ghost use Rattle.spiel_tree.specs.PerfectRecall.{HasPerfectRecall};
 ghost use Rattle.spiel_tree.specs.States.{numbers_of, state_at, state_of, states_below};
 ghost use Rattle.spiel_tree.specs.Trees.{IsGameTree, IsParent, IsTree, last_index};
+ghost use Rattle.spiel_tree.specs.FaultTexts.{fault_text};
 
 use crate::flat::{FlatRow, Rows};
 use crate::states::{find, player_of, state_of, text_of};
@@ -67,6 +68,8 @@ pub enum TreeFault {
 }
 
 impl fmt::Display for TreeFault {
+    ghost output = { λ fault. Some (fault_text fault) };
+
     fn fmt<W: fmt::Write>(&self, f: &mut fmt::Formatter<W>) -> fmt::Result {
         match self {
             TreeFault::TooMany => write!(f, "too many histories"),
