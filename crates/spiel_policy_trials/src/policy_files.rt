@@ -44,12 +44,17 @@ pub(super) fn comes_to(alloc: Global, tree: &Tree, file: &[u8], answer: &Answer)
     }
 }
 
-/// The text that these parts are together.
-pub(super) fn joined(alloc: Global, parts: &[&[u8]]) -> Result<Text, NoMemory> {
+/// A text between two others.
+pub(super) fn between(
+    alloc: Global,
+    front: &[u8],
+    middle: &[u8],
+    back: &[u8],
+) -> Result<Text, NoMemory> {
     let mut text = Text::new(alloc);
-    for part in parts {
-        text.push(part)?;
-    }
+    text.push(front)?;
+    text.push(middle)?;
+    text.push(back)?;
     Ok(text)
 }
 
@@ -62,7 +67,7 @@ pub(super) struct Files {
 
 /// Whether a text between the front and the back comes to this.
 fn is_row(alloc: Global, tree: &Tree, files: &Files, text: &[u8], answer: &Answer) -> bool {
-    match joined(alloc, &[files.front, text, files.back]) {
+    match between(alloc, files.front, text, files.back) {
         Ok(file) => comes_to(alloc, tree, file.bytes(), answer),
         Err(_) => false,
     }
@@ -304,19 +309,20 @@ static FAULTY: [(&[u8], PolicyFault); 7] = [
     ),
 ];
 
-/// Whether a file reads so that has these entries behind one by which player 1 takes 1.
-fn is_second(alloc: Global, tree: &Tree, second: &[u8], third: &[u8], fault: PolicyFault) -> bool {
-    let file = joined(
-        alloc,
-        &[
-            br#"{"policy":1,"states":[{"player":1,"state":"a","actions":[[1,1]]},"#,
-            second,
-            b",",
-            third,
-            b"]}",
-        ],
-    );
-    match file {
+/// A file that has these two entries behind one by which player 1 takes 1.
+fn file_of(alloc: Global, second: &[u8], third: &[u8]) -> Result<Text, NoMemory> {
+    let mut file = Text::new(alloc);
+    file.push(br#"{"policy":1,"states":[{"player":1,"state":"a","actions":[[1,1]]},"#)?;
+    file.push(second)?;
+    file.push(b",")?;
+    file.push(third)?;
+    file.push(b"]}")?;
+    Ok(file)
+}
+
+/// Whether a file with these two entries has this fault.
+fn has_fault(alloc: Global, tree: &Tree, second: &[u8], third: &[u8], fault: PolicyFault) -> bool {
+    match file_of(alloc, second, third) {
         Ok(file) => comes_to(alloc, tree, file.bytes(), &Answer::Fault(fault)),
         Err(_) => false,
     }
@@ -325,7 +331,7 @@ fn is_second(alloc: Global, tree: &Tree, second: &[u8], third: &[u8], fault: Pol
 /// Whether a faulty entry decides before each other.
 fn decides(alloc: Global, tree: &Tree, entry: &[u8], fault: PolicyFault) -> bool {
     for (other, _) in &FAULTY {
-        if !is_second(alloc, tree, entry, other, fault) {
+        if !has_fault(alloc, tree, entry, other, fault) {
             return false;
         }
     }
@@ -357,7 +363,8 @@ fn the_first_faulty_entry_decides(rt: HostRuntime) {
 
 /// A file that is nested so deep, by an entry that is an array in an array, and so on.
 fn nested(alloc: Global, depth: usize) -> Result<Text, NoMemory> {
-    let mut file = joined(alloc, &[br#"{"policy":1,"states":["#])?;
+    let mut file = Text::new(alloc);
+    file.push(br#"{"policy":1,"states":["#)?;
     for side in [b"[", b"]"] {
         for _ in 2..depth {
             file.push(side)?;

@@ -2,7 +2,7 @@
 ghost use Rattle.spiel_policy.specs.Profiles.{Fits};
 
 use super::policies::{Choice, policy_for, weight_at};
-use super::policy_files::{Answer, Files, OVER, comes_to, first_wrong, joined, tree_of};
+use super::policy_files::{Answer, Files, OVER, between, comes_to, first_wrong, tree_of};
 use super::state_weights::{KUHN_FIRST, KUHN_UNIFORM, State, are_states};
 use spiel_frac::{NoMemory, Text};
 use spiel_poker::{Kuhn, Leduc};
@@ -85,7 +85,7 @@ fn is_written(alloc: Global, tree: &Tree, policy: &Policy, want: &[u8]) -> bool
     let Ok(text) = written_behind(alloc, tree, policy, b"before ") else {
         return false;
     };
-    match joined(alloc, &[b"before ", want]) {
+    match between(alloc, b"before ", want, b"") {
         Ok(want) => text.bytes() == want.bytes(),
         Err(_) => false,
     }
