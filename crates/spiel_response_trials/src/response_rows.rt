@@ -165,7 +165,7 @@ const UNIFORM: Given = Given::Made(Choice::Uniform);
 
 const FIRST: Given = Given::Made(Choice::First);
 
-pub(super) static ROWS: [Row; 26] = [
+pub(super) const ROWS: [Row; 26] = [
     // over at its root: nobody can do otherwise, and the one sum is 5 - 7
     Row {
         players: 2,
@@ -576,7 +576,7 @@ const EQUILIBRIUM: &[u8] = br#"{"policy":1,"states":[
 {"player":1,"state":"0b","actions":[[0,"1"]]}]}"#;
 
 /// A policy for Kuhn poker, and what it comes to.
-pub(super) static KUHN: [(Given, Want); 3] = [
+pub(super) const KUHN: [(Given, Want); 3] = [
     // player 0: a bet with 0 gets (1 - 2) / 2 and with 1 it gets (1 + 0) / 2, a pass with 2 gets
     // (1 + 2) / 2 and so does a bet; player 1: with 0 a bet gets (1 - 2) / 2 and a fold -1, with 1
     // a bet gets (1 + 0) / 2 and a call 0, with 2 a bet gets (1 + 2) / 2 and a call 2

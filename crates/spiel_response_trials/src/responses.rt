@@ -276,45 +276,32 @@ fn is_row(alloc: Global, row: &Row) -> bool {
     }
 }
 
-/// The first row that isn't so, if there is one.
-fn wrong_row(alloc: Global) -> Option<usize> {
-    for (i, row) in ROWS.iter().enumerate() {
-        if !is_row(alloc, row) {
-            return Some(i);
-        }
-    }
-    None
-}
-
-/// The first row of Kuhn poker that isn't so, if there is one.
-fn wrong_kuhn_row(alloc: Global) -> Option<usize> {
-    let kuhn = Kuhn::new(2).unwrap();
-    for (i, (given, want)) in KUHN.iter().enumerate() {
-        if !is_judged_so(alloc, tree_of(alloc, &kuhn), *given, Some(*want)) {
-            return Some(i);
-        }
-    }
-    None
-}
-
-/// Whether both computations come to the same for Leduc poker.
-fn is_leduc(alloc: Global, choice: Choice) -> bool {
-    let leduc = Leduc::new(2).unwrap();
-    both_agree(alloc, tree_of(alloc, &leduc), choice)
-}
-
 #[test]
 fn games_given_as_tables_have_their_responses(rt: HostRuntime) {
-    assert_eq!(rt; wrong_row(rt.alloc()), None);
+    for (i, row) in ROWS.iter().enumerate() {
+        assert!(rt; is_row(rt.alloc(), row), "row {i}");
+    }
 }
 
 #[test]
 fn kuhn_poker_has_its_responses(rt: HostRuntime) {
-    assert_eq!(rt; wrong_kuhn_row(rt.alloc()), None);
+    let kuhn = Kuhn::new(2).unwrap();
+    for (i, (given, want)) in KUHN.iter().enumerate() {
+        let tree = tree_of(rt.alloc(), &kuhn);
+        assert!(rt;
+            is_judged_so(rt.alloc(), tree, *given, Some(*want)),
+            "row {i}"
+        );
+    }
 }
 
 #[test]
 fn leduc_poker_has_its_responses(rt: HostRuntime) {
-    assert!(rt; is_leduc(rt.alloc(), Choice::Uniform));
-    assert!(rt; is_leduc(rt.alloc(), Choice::First));
+    let leduc = Leduc::new(2).unwrap();
+    for choice in [Choice::Uniform, Choice::First] {
+        assert!(rt;
+            both_agree(rt.alloc(), tree_of(rt.alloc(), &leduc), choice),
+            "{choice:?}"
+        );
+    }
 }

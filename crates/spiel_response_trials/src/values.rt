@@ -90,7 +90,7 @@ pub(super) const UNEVEN: &[Node] = &[
     Node::Terminal(&[6, 3]),
 ];
 
-static ROWS: [Row; 8] = [
+const ROWS: [Row; 8] = [
     // the game is over at its root
     Row {
         players: 2,
@@ -172,29 +172,16 @@ fn is_row(alloc: Global, row: &Row) -> bool {
     }
 }
 
-/// The first row that isn't so, if there is one.
-fn wrong_row(alloc: Global) -> Option<usize> {
-    for (i, row) in ROWS.iter().enumerate() {
-        if !is_row(alloc, row) {
-            return Some(i);
-        }
-    }
-    None
-}
-
 #[test]
 fn games_given_as_tables_have_their_values(rt: HostRuntime) {
-    assert_eq!(rt; wrong_row(rt.alloc()), None);
-}
-
-/// Whether the players of Kuhn poker get these values.
-fn is_kuhn(alloc: Global, choice: Choice, total: i128, values: &[i128]) -> bool {
-    let kuhn = Kuhn::new(2).unwrap();
-    are_values(alloc, &kuhn, choice, total, values)
+    for (i, row) in ROWS.iter().enumerate() {
+        assert!(rt; is_row(rt.alloc(), row), "row {i}");
+    }
 }
 
 #[test]
 fn kuhn_poker_has_its_values(rt: HostRuntime) {
-    assert!(rt; is_kuhn(rt.alloc(), Choice::Uniform, 48, &[6, -6]));
-    assert!(rt; is_kuhn(rt.alloc(), Choice::First, 6, &[0, 0]));
+    let kuhn = Kuhn::new(2).unwrap();
+    assert!(rt; are_values(rt.alloc(), &kuhn, Choice::Uniform, 48, &[6, -6]));
+    assert!(rt; are_values(rt.alloc(), &kuhn, Choice::First, 6, &[0, 0]));
 }
