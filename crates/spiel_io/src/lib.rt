@@ -8,8 +8,6 @@ mod mem_shelf;
 mod mem_sink;
 mod numbers;
 mod outside;
-#[cfg(test)]
-mod tests;
 
 pub use calls::{FetchFault, fetch, send};
 pub use host::{HostShelf, HostSink};

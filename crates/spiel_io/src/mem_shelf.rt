@@ -167,6 +167,13 @@ impl MemShelf {
         }
     }
 
+    /// How often a file was begun in the slot, also where that failed.
+    pub fn begins(&self, slot: Slot) -> u64
+        ensures { result ≡ ((shelf_state self.now).reading slot).begins }
+    {
+        self.place(slot).begins
+    }
+
     /// How often a call has failed.
     pub fn faults(&self) -> u64
         ensures { result ≡ (shelf_state self.now).faults }
