@@ -1,9 +1,6 @@
 //! The program `spiel`: the words of its command line over real files and streams.
 #![tactic(auto)]
 
-#[cfg(test)]
-mod tests;
-
 use spiel_cli::run;
 use spiel_frac::NoMemory;
 use spiel_io::{HostShelf, HostSink, send};

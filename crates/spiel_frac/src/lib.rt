@@ -14,8 +14,6 @@ mod multiples;
 mod numbers;
 mod packed;
 mod reading;
-#[cfg(test)]
-mod tests;
 mod text;
 
 pub use cutting::cut;

@@ -3,4 +3,3 @@ pub mod Points
 pub mod Numbers
 pub mod Growth
 pub mod Texts
-pub mod FirstStep

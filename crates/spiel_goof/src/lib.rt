@@ -4,8 +4,6 @@
 mod cards;
 mod goofspiel;
 mod table;
-#[cfg(test)]
-mod tests;
 mod turns;
 
 pub use goofspiel::{BadCards, Goofspiel, GoofspielState, PointOrder, ReturnKind};

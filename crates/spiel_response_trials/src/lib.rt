@@ -1,16 +1,14 @@
-//! Tests of what policies are worth, and of best responses, over Kuhn poker, Leduc poker and the small games of
-//! `spiel_samples`.
+//! Tests of what policies are worth and of best responses over small games of `spiel_samples`, which no command
+//! plays: of one player and of three, with a unit, with draws that never come, and at the edge of 127 bits.
 #![tactic(auto)]
 
 #[cfg(test)]
+mod games;
+#[cfg(test)]
+mod judged;
+#[cfg(test)]
 mod overflow;
 #[cfg(test)]
-mod plain_responses;
+mod plain;
 #[cfg(test)]
-mod plain_values;
-#[cfg(test)]
-mod response_rows;
-#[cfg(test)]
-mod responses;
-#[cfg(test)]
-mod values;
+mod policies;

@@ -1,10 +1,6 @@
 pub mod Chain
 pub mod ChainLaws
-pub mod Claims
-pub mod ClaimsLaws
 pub mod Node
-pub mod Pennies
-pub mod PenniesLaws
 pub mod Stakes
 pub mod StakesLaws
 pub mod Table

@@ -1,6 +1,6 @@
 -- The game of stakes keeps the laws.
-use Rattle.std.specs.Prelude.{◌≡◌, ◌≢◌, ℕ, zero, suc, ◌+◌, ◌-◌, ◌^◌, ◌<◌, ◌≤◌, pos, neg_ℤ, Bool, true, false, List, [], ◌∷◌, ◌++◌, length, nat_abs, codes, nat_lt, sum, if◌then◌else◌, ◌==◌}
-use Rattle.std.specs.List.{All}
+use Rattle.std.specs.Prelude.{◌≡◌, ◌≢◌, ℕ, zero, suc, ◌+◌, ◌-◌, ◌^◌, ◌<◌, ◌≤◌, pos, neg_ℤ, Bool, true, false, List, [], ◌∷◌, ◌++◌, length, slice_index, nat_abs, codes, nat_lt, sum, if◌then◌else◌, ◌==◌}
+use Rattle.std.specs.List.{All, Contains}
 use Rattle.std.specs.List.Sorted.{IsStrictlyIncreasing}
 use Rattle.std.proofs.Common.{refl, arith, ap}
 use Rattle.std.proofs.lemmas.Bool.{ltb-true, false≢true}
@@ -9,10 +9,11 @@ use Rattle.spiel_api.specs.declared.place.Place.{Place}
 use Rattle.spiel_api.specs.declared.place.Place.TheVariants.{End, Chance, Move, Joint}
 use Rattle.spiel_api.specs.Rules.{next_at}
 use Rattle.spiel_api.specs.Plays.{IsPlay}
-use Rattle.spiel_api.specs.Place.{IsAmongPlayers, IsOpen, HasInfo}
+use Rattle.spiel_api.specs.Place.{IsAmongPlayers, IsOpen}
+use Rattle.spiel_api.specs.States.{IsJointChoice}
 use Rattle.spiel_api.specs.Laws.{IsLawful, IsPrintable, HasLegalNumbers, HasWholeJointSteps}
 use Rattle.spiel_api.proofs.LawLemmas.{All-computed, IsStrictlyIncreasing-computed, IsPrintable-computed}
-use Rattle.spiel_samples.specs.Stakes.{stakes_rules, stakes_place, stakes_legal, again_legal, stakes_weights, stakes_info, stakes_name, stakes_pay, stake_text, side_name, amount, winner}
+use Rattle.spiel_samples.specs.Stakes.{stakes_rules, stakes_place, stakes_legal, again_legal, stakes_weights, stakes_info, stakes_name, stakes_pay, stake_text, amount, winner}
 
 -- what holds at each kind of node holds everywhere
 everywhere : (P : Place → (ℕ → List ℕ) → List ℕ → Type 0)
@@ -139,3 +140,19 @@ stakes_lawful = record {
   capped = λ h p play e l. stakes_capped h p;
   one_shot = λ o. absurd (false≢true o);
 }
+
+-- behind a stake any two sides are a joint step
+pub both_choose : (h : List ℕ) (stake first second : ℕ) → h ≡ stake ∷ [] → first < 2 → second < 2 → IsJointChoice stakes_rules h (first ∷ second ∷ [])
+both_choose [] stake first second e l m = cc
+both_choose (a ∷ b ∷ rest) stake first second e l m = cc
+both_choose (a ∷ []) stake first second e l m = record { count = refl; each = each }
+  where
+    side : (a : ℕ) → a < 2 → Contains (0 ∷ 1 ∷ []) a
+    side zero n = (0, n, refl)
+    side (suc zero) n = (1, n, refl)
+    side (suc (suc a)) n = absurd (omega arith)
+
+    each : (p : ℕ) → p < 2 → Contains (0 ∷ 1 ∷ []) (slice_index (first ∷ second ∷ []) p)
+    each zero n = side first l
+    each (suc zero) n = side second m
+    each (suc (suc p)) n = absurd (omega arith)

@@ -1,15 +1,20 @@
-//! Tests of the layers under the commands, over Kuhn poker and the small games of `spiel_samples`.
+//! Tests of the layers under the commands, over the small games of `spiel_samples` and over tables of pays:
+//! what no game with a name shows. All else is told by the rows of `spiel_rows`.
 #![tactic(auto)]
 
 #[cfg(test)]
-mod fact_lines;
+mod fault_texts;
 #[cfg(test)]
 mod joint_steps;
 #[cfg(test)]
-mod recall;
+mod layers;
 #[cfg(test)]
-mod saved_plays;
+mod lines;
 #[cfg(test)]
-mod state_lines;
+mod matrices;
+#[cfg(test)]
+mod real_files;
+#[cfg(test)]
+mod shown;
 #[cfg(test)]
 mod trees;

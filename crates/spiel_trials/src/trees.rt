@@ -1,173 +1,224 @@
-//! The trees of Kuhn poker, of matching pennies and of a chain. What is expected of Kuhn poker is worked by hand
-//! from its rules: 6 deals with 9 histories each, and the 4 histories before a deal is complete.
-ghost use Rattle.std.specs.Prelude.{◌<◌, ◌≤◌, length};
+//! What building a tree comes to: players who forget, information states with two lists of numbers, who chooses
+//! at once, one history too many, the longest plays, and texts that are numbered as they are first seen.
 
-use spiel_api::Place;
-use spiel_poker::Kuhn;
-use spiel_samples::{Chain, Pennies};
+use spiel_api::Game;
+use spiel_samples::{Chain, Node, Stakes, Table};
 use spiel_tree::{Tree, TreeFault, build};
 use std::alloc::Global;
 
-/// What a history is: whose number is next, its parent, the place of its last number there, its
-/// information state, how many numbers it has, and what player 0 gets.
-type Row = (Place, Option<u32>, u32, Option<u32>, u32, i64);
+/// What a game with as many histories as are allowed comes to.
+enum Want {
+    /// A tree of so many information states.
+    States(u32),
+    /// Players choose at once after this history.
+    AtOnce(&'static [u32]),
+    /// This player forgets: the first history of an information state, and the one that shows it.
+    Forgets(u32, &'static [u32], &'static [u32]),
+    /// This player has other numbers at the second history.
+    OtherNumbers(u32, &'static [u32], &'static [u32]),
+}
 
-/// The root, the first deal of player 0, the nine histories of the first deal, and the next deal.
-const ROWS: [Row; 12] = [
-    (Place::Chance, None, 0, None, 3, 0),
-    (Place::Chance, Some(0), 0, None, 2, 0),
-    (Place::Move(0), Some(1), 0, Some(0), 2, 0),
-    (Place::Move(1), Some(2), 0, Some(6), 2, 0),
-    (Place::End, Some(3), 0, None, 0, -1),
-    (Place::Move(0), Some(3), 1, Some(1), 2, 0),
-    (Place::End, Some(5), 0, None, 0, -1),
-    (Place::End, Some(5), 1, None, 0, -2),
-    (Place::Move(1), Some(2), 1, Some(7), 2, 0),
-    (Place::End, Some(8), 0, None, 0, 1),
-    (Place::End, Some(8), 1, None, 0, -2),
-    (Place::Move(0), Some(1), 1, Some(0), 2, 0),
-];
-
-/// What player 0 gets, at an end of a game of two players; else 0.
-fn first_pay(tree: &Tree, row: u32) -> i64
-    requires { row < length tree.now.rows }
-{
-    match tree.row_place(row) {
-        Place::End if tree.players() == 2 => {
-            let pay = tree.row_pay(row, 0);
-            if pay.checked_add(tree.row_pay(row, 1)) == Some(0) {
-                pay
-            } else {
-                0
-            }
-        }
-        _ => 0,
+fn is_told(fault: &TreeFault, want: &Want) -> bool {
+    match (fault, want) {
+        (TreeFault::Simultaneous { history }, Want::AtOnce(at)) => history.items() == *at,
+        (
+            TreeFault::Recall {
+                player,
+                first,
+                second,
+            },
+            Want::Forgets(whose, f, s),
+        ) => player == whose && first.items() == *f && second.items() == *s,
+        (
+            TreeFault::Actions {
+                player,
+                first,
+                second,
+            },
+            Want::OtherNumbers(whose, f, s),
+        ) => player == whose && first.items() == *f && second.items() == *s,
+        _ => false,
     }
 }
 
-/// The place of the last number; 0 at the first row.
-fn step(tree: &Tree, row: u32) -> u32
-    requires { row < length tree.now.rows }
+fn is_tree(tree: &Tree, histories: u32, want: &Want) -> bool {
+    match want {
+        Want::States(states) => tree.histories() == histories && tree.states() == *states,
+        _ => false,
+    }
+}
+
+/// Whether a game has so many histories and comes to this, and is refused for its size where one fewer is
+/// allowed.
+fn comes_to<G: Game>(alloc: Global, game: &G, histories: u32, want: &Want) -> bool
+    requires { G.is_game game.now }
 {
-    if row == 0 { 0 } else { tree.row_step(row) }
-}
-
-/// Whether a row is so.
-fn is_row(tree: &Tree, row: u32, want: &Row) -> bool {
-    row < tree.histories()
-        && *want
-            == (
-                tree.row_place(row),
-                tree.row_parent(row),
-                step(tree, row),
-                tree.row_state(row),
-                tree.row_count(row),
-                first_pay(tree, row),
-            )
-}
-
-/// An information state: who moves, and what that player sees.
-type State = (u32, &'static [u8]);
-
-const STATES: [State; 12] = [
-    (0, b"0"),
-    (0, b"0pb"),
-    (0, b"1"),
-    (0, b"1pb"),
-    (0, b"2"),
-    (0, b"2pb"),
-    (1, b"1p"),
-    (1, b"1b"),
-    (1, b"2p"),
-    (1, b"2b"),
-    (1, b"0p"),
-    (1, b"0b"),
-];
-
-/// Whether an information state is so, is found, and has the numbers 0 and 1.
-fn is_state(tree: &Tree, state: u32, want: &State) -> bool {
-    let (player, text) = *want;
-    state < tree.states()
-        && player < tree.players()
-        && tree.state_player(state) == player
-        && tree.state_text(state) == text
-        && tree.find(player, text) == Some(state)
-        && tree.action_count(state) == 2
-        && tree.action_at(state, 0) == 0
-        && tree.action_at(state, 1) == 1
-}
-
-/// Whether chance draws these numbers at a row, each with the weight 1.
-fn is_drawn(tree: &Tree, row: u32, numbers: &[u32]) -> bool {
-    if row >= tree.histories()
-        || tree.row_place(row) != Place::Chance
-        || tree.row_count(row) as usize != numbers.len()
-    {
+    if histories < 2 || histories > 1048576 {
         return false;
     }
-    for index in 0..tree.row_count(row) {
-        if tree.row_action(row, index) != numbers[index as usize]
-            || tree.row_weight(row, index) != 1
-        {
-            return false;
+    let fewer = build(alloc, game, histories - 1);
+    let built = build(alloc, game, histories);
+    matches!(&fewer, Err(TreeFault::TooMany))
+        && match &built {
+            Ok(tree) => is_tree(tree, histories, want),
+            Err(fault) => is_told(fault, want),
         }
+}
+
+/// Where no table here has a node: the play is over.
+const OVER: u32 = 9;
+
+/// Chance draws 0 or 1, each as likely as the other.
+const DRAW: Node = Node::Chance(&[(1, 1), (1, 2)]);
+
+/// Player 0 sees a, b or c and has two numbers, which end the play.
+const A0: Node = Node::Decision(0, b"a", &[OVER, OVER]);
+
+const B0: Node = Node::Decision(0, b"b", &[OVER, OVER]);
+
+const C0: Node = Node::Decision(0, b"c", &[OVER, OVER]);
+
+/// One number alone ends the play.
+const ONE_B0: Node = Node::Decision(0, b"b", &[OVER]);
+
+const ONE_A1: Node = Node::Decision(1, b"a", &[OVER]);
+
+/// Both players begin with two numbers, and see a.
+const BEGIN_0: Node = Node::Decision(0, b"a", &[1, 2]);
+
+const BEGIN_1: Node = Node::Decision(1, b"a", &[1, 2]);
+
+/// A game of two players, how many histories it has, and what it comes to.
+type Case = (&'static [Node], u32, Want);
+
+static CASES: [Case; 14] = [
+    // the number taken before isn't known
+    (&[BEGIN_0, B0, B0], 7, Want::Forgets(0, &[0], &[1])),
+    // nor whether there was a move before
+    (
+        &[DRAW, Node::Decision(0, b"a", &[3, OVER]), B0, B0],
+        9,
+        Want::Forgets(0, &[0, 0], &[1]),
+    ),
+    // the numbers are known, but not what was seen at them
+    (
+        &[
+            DRAW,
+            Node::Decision(0, b"a", &[3, OVER]),
+            Node::Decision(0, b"b", &[3, OVER]),
+            C0,
+        ],
+        11,
+        Want::Forgets(0, &[0, 0], &[1, 0]),
+    ),
+    // only how many moves there were is known
+    (
+        &[
+            DRAW,
+            Node::Decision(0, b"a", &[3, 3]),
+            Node::Decision(0, b"a", &[3, 3]),
+            B0,
+        ],
+        15,
+        Want::Forgets(0, &[0, 0], &[0, 1]),
+    ),
+    // an information state comes twice in a play
+    (
+        &[Node::Decision(0, b"a", &[1, OVER]), A0],
+        5,
+        Want::Forgets(0, &[], &[0]),
+    ),
+    // fewer numbers
+    (&[DRAW, B0, ONE_B0], 6, Want::OtherNumbers(0, &[0], &[1])),
+    // more numbers
+    (&[DRAW, ONE_B0, B0], 6, Want::OtherNumbers(0, &[0], &[1])),
+    // a fault of recall at [0 1], and one of numbers at [1]
+    (
+        &[
+            BEGIN_0,
+            Node::Decision(1, b"a", &[3, 3]),
+            ONE_A1,
+            Node::Decision(1, b"b", &[OVER, OVER]),
+        ],
+        10,
+        Want::Forgets(1, &[0, 0], &[0, 1]),
+    ),
+    // one of numbers at [1], and one of recall at [1 0]
+    (
+        &[
+            BEGIN_0,
+            Node::Decision(1, b"a", &[3, OVER]),
+            Node::Decision(1, b"a", &[3]),
+            B0,
+        ],
+        10,
+        Want::OtherNumbers(1, &[0], &[1]),
+    ),
+    // both at [1]
+    (&[BEGIN_0, B0, ONE_B0], 6, Want::Forgets(0, &[0], &[1])),
+    // player 0 doesn't see what player 1 took, nor what was drawn
+    (&[BEGIN_1, A0, A0], 7, Want::States(2)),
+    (&[DRAW, A0, A0], 7, Want::States(1)),
+    // each remembers the own number
+    (&[BEGIN_0, B0, C0], 7, Want::States(3)),
+    // the texts of two players are apart
+    (&[DRAW, A0, ONE_A1], 6, Want::States(2)),
+];
+
+fn is_case(alloc: Global, case: &Case) -> bool {
+    let (nodes, histories, want) = case;
+    match Table::new(2, 1, nodes) {
+        Some(game) => comes_to(alloc, &game, *histories, want),
+        None => false,
     }
-    true
 }
 
 #[test]
-fn kuhn_poker_has_58_histories(rt: HostRuntime) {
-    let game = Kuhn::new(2).unwrap();
-    assert!(rt; matches!(build(rt.alloc(), &game, 57), Err(TreeFault::TooMany)));
-    let tree = build(rt.alloc(), &game, 58).expect(&rt, "58 are allowed");
-    assert_eq!(rt; tree.histories(), 58);
-    assert_eq!(rt; tree.states(), 12);
-    assert_eq!(rt; tree.players(), 2);
-    assert_eq!(rt; tree.unit(), 1);
-    for (row, want) in ROWS.iter().enumerate() {
-        assert!(rt; is_row(&tree, row as u32, want), "row {row}");
-    }
-    for (state, want) in STATES.iter().enumerate() {
-        assert!(rt; is_state(&tree, state as u32, want), "state {state}");
-    }
-    assert!(rt; is_drawn(&tree, 0, &[0, 1, 2]));
-    assert!(rt; is_drawn(&tree, 1, &[1, 2]));
-    assert!(rt; tree.players() == 2);
-    assert!(rt; tree.find(0, b"1p").is_none());
+fn who_forgets_has_no_tree(rt: HostRuntime) {
+    assert!(rt; CASES.iter().all(|case| is_case(rt.alloc(), case)));
 }
 
-/// Whether matching pennies has no tree, since both choose at once after the empty history.
-fn is_simultaneous(alloc: Global, limit: u32) -> bool
-    requires low { 1 ≤ limit }
-    requires high { limit ≤ 1048576 }
-{
-    let built = build(alloc, &Pennies, limit);
-    match &built {
-        Err(TreeFault::Simultaneous { history }) => history.items().is_empty(),
+#[test]
+fn who_chooses_at_once_has_no_tree(rt: HostRuntime) {
+    assert!(rt; comes_to(rt.alloc(), &Stakes, 31, &Want::AtOnce(&[0])));
+}
+
+#[test]
+fn the_longest_plays_have_a_tree(rt: HostRuntime) {
+    assert!(rt; comes_to(rt.alloc(), &Chain, 8193, &Want::States(4095)));
+}
+
+/// What is seen comes again, is empty, and is the front of another.
+static SEEN: [Node; 7] = [
+    Node::Chance(&[(1, 1), (1, 2), (1, 3), (1, 4), (1, 5), (1, 6)]),
+    Node::Decision(0, b"king", &[OVER]),
+    Node::Decision(0, b"", &[OVER]),
+    Node::Decision(0, b"queen", &[OVER]),
+    Node::Decision(0, b"king", &[OVER]),
+    Node::Decision(0, b"", &[OVER]),
+    Node::Decision(0, b"kin", &[OVER]),
+];
+
+static FOUND: [(&'static [u8], Option<u32>); 5] = [
+    (b"king", Some(0)),
+    (b"", Some(1)),
+    (b"queen", Some(2)),
+    (b"kin", Some(3)),
+    (b"kings", None),
+];
+
+/// Whether the four texts are the information states, in the order in which they are first seen.
+fn are_numbered(alloc: Global, game: &Table) -> bool {
+    match &build(alloc, game, 13) {
+        Ok(tree) if tree.players() == 1 => {
+            tree.states() == 4 && FOUND.iter().all(|(text, want)| tree.find(0, text) == *want)
+        }
         _ => false,
     }
 }
 
 #[test]
-fn who_chooses_at_once_has_no_tree(rt: HostRuntime) {
-    assert!(rt; is_simultaneous(rt.alloc(), 7));
-    assert!(rt; matches!(build(rt.alloc(), &Pennies, 6), Err(TreeFault::TooMany)));
-}
-
-/// Whether with this limit the chain has 8,193 histories, and the 4,095 information states of both
-/// plays.
-fn is_whole(alloc: Global, limit: u32) -> bool
-    requires low { 1 ≤ limit }
-    requires high { limit ≤ 1048576 }
-{
-    let Ok(tree) = build(alloc, &Chain, limit) else {
-        return false;
-    };
-    tree.histories() == 8193 && tree.states() == 4095
-}
-
-#[test]
-fn the_longest_plays_have_a_tree(rt: HostRuntime) {
-    assert!(rt; is_whole(rt.alloc(), 8193));
-    assert!(rt; matches!(build(rt.alloc(), &Chain, 8192), Err(TreeFault::TooMany)));
+fn texts_are_numbered_as_first_seen(rt: HostRuntime) {
+    let game = Table::new(1, 1, &SEEN).expect(&rt, "one player");
+    assert!(rt; are_numbered(rt.alloc(), &game));
 }

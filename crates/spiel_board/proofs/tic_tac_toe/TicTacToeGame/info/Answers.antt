@@ -2,6 +2,7 @@ use Rattle.std.proofs.Common.{◌∙◌, ◌++◌, ℕ, List, ap, sym, take, dro
 use Rattle.std.specs.Prelude.{codes, flat_map}
 use Rattle.std.proofs.lemmas.List.Concat.{flat_map-append}
 use Rattle.std.proofs.lemmas.Result.{err_from_is_err_and}
+use Rattle.std.proofs.lemmas.Grind.{common_steps}
 use Rattle.spiel_board.specs.TicTacToe.{move_text}
 use Rattle.spiel_board.proofs.Boards.{cell_at}
 use Rattle.spiel_board.proofs.tic_tac_toe.TicTacToeGame.info.Goals as goal
@@ -26,3 +27,6 @@ returns-in_err-push-2 c =
           ∙ ap (λ (text : List ℕ). codes "moves" ++ text) (flat_map-append move_text (take k h) (drop k h));
       added = c.in_err-push-2.ensures.err ∙ c.loop-cell.invariant ∙ append_assoc c.args.out.now (codes "moves") (flat_map move_text (take k h));
     }
+
+pub loop-cell-preserved : goal.loop-cell-preserved
+loop-cell-preserved c = grind (arith, common_steps)

@@ -1,6 +1,6 @@
 use Rattle.std.proofs.Common.{◌≡◌, ◌<◌, ℕ, true}
 use Rattle.spiel_response.specs.Answered.{is_made}
-use Rattle.spiel_response_trials.proofs.responses.rising.Given as goal
+use Rattle.spiel_response_trials.proofs.judged.responses.Given as goal
 
 -- the responses of the players so far are made
 abbrev pub invariant-loop-player : goal.invariant-loop-player

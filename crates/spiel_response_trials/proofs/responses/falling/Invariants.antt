@@ -1,9 +1,0 @@
-use Rattle.std.proofs.Common.{◌≡◌, ◌<◌, ◌≤◌, ℕ, true}
-use Rattle.spiel_response.specs.Answered.{is_made}
-use Rattle.spiel_response_trials.proofs.responses.falling.Given as goal
-
--- the responses of the players from the next one behind on are made
-abbrev pub invariant-loop-player : goal.invariant-loop-player
-invariant-loop-player l =
-    (l.work.judged ≡ l.fn.work.judged)
-    × ((p : ℕ) → l.player ≤ p → p < l.players → is_made l.work p ≡ true)
