@@ -1,5 +1,5 @@
 -- From what was answered and what was written to the outcome.
-use Rattle.std.proofs.Common.{◌≡◌, ℕ, ◌≤◌, ◌⊎◌, inl, inr, Bool, true, false, List, [], Option, Some, None, Result, Ok, Err, refl, sym, ap, ◌∙◌, subst, arith}
+use Rattle.std.proofs.Common.{◌≡◌, ℕ, ◌<◌, ◌≤◌, ◌⊎◌, inl, inr, Bool, true, false, List, [], Option, Some, None, Result, Ok, Err, refl, sym, ap, ◌∙◌, subst, arith}
 use Rattle.std.specs.Prelude.{MatchOption, if◌then◌else◌}
 use Rattle.std.specs.Option.{option_and_then}
 use Rattle.std.proofs.lemmas.List.{append-nil}
@@ -7,9 +7,9 @@ use Rattle.std.specs.Io.KnownBytes.{append_known}
 use Rattle.spiel_io.specs.Causes.{Rose}
 use Rattle.spiel_io.specs.Outside.{Files, SinkState, held}
 use Rattle.spiel_io.specs.Plan.{Plan, Give, Refuse, Ask, Kind, IsRead, IsMemory, IsRefusal, Reaches, AgreesAt, Agrees, CausedAt, Caused, AsksNothing, decided}
-use Rattle.spiel_cli.specs.Refusal.{kind_of, status_of}
+use Rattle.spiel_cli.specs.Refusal.{kind_of, message_of, status_of}
 use Rattle.spiel_cli.specs.Outcome.{done_status, outcome_of}
-use Rattle.spiel_cli.specs.Run.{Completes, IsUntouched, IsWritten, Knows, Says, TakesFront}
+use Rattle.spiel_cli.specs.Run.{Completes, IsUntouched, IsWritten, Knows, Says, SaysStatus, TakesFront}
 use Rattle.spiel_cli.specs.declared.refusal.Refusal.{Refusal}
 use Rattle.spiel_cli.specs.declared.refusal.Refusal.TheVariants.{Usage, Read, Bad, Unjudged, Unfit, Overflow, NoMemory}
 use Rattle.spiel_cli.specs.declared.done.Done.{Done}
@@ -94,3 +94,57 @@ module _ (plan : Plan Done Refusal) (told : Option Files) (files : Files) (statu
   front_taken (Ok done) h (inl w) late = absurd (let small = done_small done in omega (arith, small, w.0, late))
   front_taken (Ok done) h (inr w) late = subst (λ o. TakesFront (outcome_of o).out out out') (sym (known_decided plan told files (Ok done) known h)) w.1
   front_taken (Err e) h w late = untouched_front (outcome_of (decided plan files)).out out out' w.0
+
+-- the message is that of the status
+no_message : (status : ℕ) (err err' : SinkState) → 3 < status → status < 7 → SaysStatus status err err'
+no_message status err err' above below = record {
+  usage = λ h. absurd (omega (arith, above, h));
+  read = λ h. absurd (omega (arith, above, h));
+  write = λ h. absurd (omega (arith, below, h));
+  memory = λ h. absurd (omega (arith, below, h));
+}
+
+memory_says : (status : ℕ) (err err' : SinkState) → status ≡ 8 → Says (message_of NoMemory) err err' → SaysStatus status err err'
+memory_says status err err' is said = record {
+  usage = λ h. absurd (omega (arith, is, h));
+  read = λ h. absurd (omega (arith, is, h));
+  write = λ h. absurd (omega (arith, is, h));
+  memory = λ h. said;
+}
+
+refusal_says : (e : Refusal) (status : ℕ) (err err' : SinkState) → status ≡ status_of e → Says (message_of e) err err' → SaysStatus status err err'
+refusal_says Usage status err err' is said = record {
+  usage = λ h. said;
+  read = λ h. absurd (omega (arith, is, h));
+  write = λ h. absurd (omega (arith, is, h));
+  memory = λ h. absurd (omega (arith, is, h));
+}
+refusal_says Read status err err' is said = record {
+  usage = λ h. absurd (omega (arith, is, h));
+  read = λ h. said;
+  write = λ h. absurd (omega (arith, is, h));
+  memory = λ h. absurd (omega (arith, is, h));
+}
+refusal_says (Bad bad) status err err' is said = no_message status err err' (omega (arith, is)) (omega (arith, is))
+refusal_says (Unjudged game) status err err' is said = no_message status err err' (omega (arith, is)) (omega (arith, is))
+refusal_says (Unfit unfit) status err err' is said = no_message status err err' (omega (arith, is)) (omega (arith, is))
+refusal_says Overflow status err err' is said = no_message status err err' (omega (arith, is)) (omega (arith, is))
+refusal_says NoMemory status err err' is said = memory_says status err err' is said
+
+pub says_status : (answer : Result Done Refusal) (status : ℕ) (out out' err err' : SinkState) → IsWritten answer status out out' err err' → SaysStatus status err err'
+says_status (Ok done) status out out' err err' (inl w) =
+    let small = done_small done in
+    record {
+      usage = λ h. absurd (omega (arith, small, w.0, h));
+      read = λ h. absurd (omega (arith, small, w.0, h));
+      write = λ h. absurd (omega (arith, small, w.0, h));
+      memory = λ h. absurd (omega (arith, small, w.0, h));
+    }
+says_status (Ok done) status out out' err err' (inr w) = record {
+  usage = λ h. absurd (omega (arith, w.0, h));
+  read = λ h. absurd (omega (arith, w.0, h));
+  write = λ h. w.4;
+  memory = λ h. absurd (omega (arith, w.0, h));
+}
+says_status (Err e) status out out' err err' (same, inl w) = refusal_says e status err err' w.0 w.1
+says_status (Err e) status out out' err err' (same, inr w) = memory_says status err err' w.0 w.1

@@ -13,7 +13,7 @@ use Rattle.spiel_load.specs.Named.{named_game}
 use Rattle.spiel_cli.specs.Deciding.{decide}
 use Rattle.spiel_cli.specs.Named.{NamedGame, with_game, with_rules}
 use Rattle.spiel_cli.specs.Refusal.{kind_of, of_load, of_saved, of_string}
-use Rattle.spiel_cli.specs.Restore.{restored, shown}
+use Rattle.spiel_cli.specs.Restore.{restored, shown, shown_play}
 use Rattle.spiel_cli.specs.declared.done.Done.{Done}
 use Rattle.spiel_cli.specs.declared.refusal.Refusal.{Refusal}
 
@@ -26,13 +26,16 @@ rules_then : {A : Type 0} (text : Game) (next : NamedGame → Plan A Refusal) (r
     → Agrees kind_of (next (record { text = text; rules = rules })) None r → Agrees kind_of (with_rules text next) None r
 rules_then text next rules r h k = agrees_then (λ rules. next (record { text = text; rules = rules })) rules kind_of (decide of_load (named_game text)) None r h k
 
--- a saved play was read, its game was found, and its state was shown
-pub shown_then : (bytes : List ℕ) (played : Played) (rules : Rules) (history : List ℕ) (r : Result Done Refusal) → Agrees kind_of (decide of_saved (reading_saved bytes)) None (Ok played)
-    → Agrees kind_of (decide of_load (named_game played.0)) None (Ok rules) → history ≡ played.1 → Agrees kind_of (shown history (record { text = played.0; rules = rules })) None r
-    → Agrees kind_of (restored bytes) None r
-shown_then bytes played rules history r read found same k =
-    agrees_then (λ played. with_rules played.0 (shown played.1)) played kind_of (decide of_saved (reading_saved bytes)) None r read
-    (rules_then played.0 (shown played.1) rules r found (subst (λ (h : List ℕ). Agrees kind_of (shown h (record { text = played.0; rules = rules })) None r) same k))
+-- the game of a saved play was found, and its state was shown
+pub found_then : (played : Played) (rules : Rules) (history : List ℕ) (r : Result Done Refusal) → Agrees kind_of (decide of_load (named_game played.0)) None (Ok rules) → history ≡ played.1
+    → Agrees kind_of (shown history (record { text = played.0; rules = rules })) None r → Agrees kind_of (shown_play played) None r
+found_then played rules history r found same k =
+    rules_then played.0 (shown played.1) rules r found (subst (λ (h : List ℕ). Agrees kind_of (shown h (record { text = played.0; rules = rules })) None r) same k)
+
+-- a saved play was read, and its state was shown
+pub shown_then : (bytes : List ℕ) (played : Played) (r : Result Done Refusal) → Agrees kind_of (decide of_saved (reading_saved bytes)) None (Ok played)
+    → Agrees kind_of (shown_play played) None r → Agrees kind_of (restored bytes) None r
+shown_then bytes played r read k = agrees_then shown_play played kind_of (decide of_saved (reading_saved bytes)) None r read k
 
 -- the game of a word was found, and then a plan was followed
 pub game_then : {A : Type 0} (word : List ℕ) (text : Game) (rules : Rules) (next : NamedGame → Plan A Refusal) (old new : ShelfState) (r : Result A Refusal)

@@ -1,12 +1,11 @@
 -- The report that was printed, and that it comes.
-use Rattle.std.proofs.Common.{◌≡◌, ℕ, ◌≤◌, ◌⊎◌, inl, inr, Bool, true, false, List, [], length, Option, Some, None, Result, Ok, Err, refl, sym, ap, ◌∙◌, ◌+◌, ◌<◌, subst, le-ltb, arith}
+use Rattle.std.proofs.Common.{◌≡◌, ℕ, ◌≤◌, ◌⊎◌, inl, inr, Bool, true, List, length, Option, Some, None, Result, Ok, Err, refl, sym, ap, ◌∙◌, ◌+◌, ◌<◌, subst, le-ltb, arith}
 use Rattle.std.proofs.lemmas.Bool.{cases_eq}
-use Rattle.std.specs.Prelude.{IfOk, IfSome, OnOk, MatchOption, pos, ◌<ℤ◌, ◌≤ℤ◌, nat_lt, if◌then◌else◌}
+use Rattle.std.specs.Prelude.{IfOk, IfSome, OnOk, pos, ◌<ℤ◌, ◌≤ℤ◌, nat_lt, if◌then◌else◌}
 use Rattle.std.specs.Option.{option_and_then}
 use Rattle.std.specs.Io.KnownBytes.{append_known}
-use Rattle.spiel_io.specs.Causes.{Rose}
-use Rattle.spiel_io.specs.Outside.{Files, ShelfState, SinkState, held}
-use Rattle.spiel_io.specs.Plan.{Plan, Give, Refuse, Ask, ◌>>=◌, Reaches, Agrees, Caused, AsksNothing, decided}
+use Rattle.spiel_io.specs.Outside.{Files, SinkState, held}
+use Rattle.spiel_io.specs.Plan.{Plan, Give, Refuse, Ask, ◌>>=◌, Reaches, decided}
 use Rattle.spiel_io.proofs.Reached.{quiet_first}
 use Rattle.spiel_api.specs.Rules.{Rules}
 use Rattle.spiel_string.specs.Answer.{reading}
@@ -25,11 +24,11 @@ use Rattle.spiel_words.specs.declared.command.Command.TheVariants.{Judge}
 use Rattle.spiel_words.specs.Verbs.{command_of}
 use Rattle.spiel_cli.specs.Case.{Case, case_of, case_plan, game_case, history_limit, policy_case}
 use Rattle.spiel_cli.specs.Deciding.{decide, file_limit, named_file, unless, written}
-use Rattle.spiel_cli.specs.Judgement.{AreOfCase, HasJudged, IsAnswered, IsOfGame, IsReport, IsReportBy, IsRight, IsSaid, IsSaidBy, Judges}
+use Rattle.spiel_cli.specs.Judgement.{AreOfCase, HasJudged, IsAnswered, IsOfGame, IsReport, IsReportBy, IsRight, IsSaidBy, Judges}
 use Rattle.spiel_cli.specs.Named.{NamedGame, with_rules}
 use Rattle.spiel_cli.specs.Outcome.{outcome_of, plan_by, plan_of}
-use Rattle.spiel_cli.specs.Policies.{chosen, chosen_by, file_profile, name_of, profile_of}
-use Rattle.spiel_cli.specs.Refusal.{kind_of, of_load, of_policy, of_string, of_tree, status_of}
+use Rattle.spiel_cli.specs.Policies.{chosen, chosen_by, file_profile, name_of}
+use Rattle.spiel_cli.specs.Refusal.{of_load, of_policy, of_string, of_tree, status_of}
 use Rattle.spiel_cli.specs.Report.{judge_plan, report_text, reported}
 use Rattle.spiel_cli.specs.Run.{Completes, IsWritten, Knows}
 use Rattle.spiel_cli.specs.Value.{numbers_fit}
@@ -39,7 +38,7 @@ use Rattle.spiel_cli.specs.declared.policies.NamedPolicy.{NamedPolicy}
 use Rattle.spiel_cli.specs.declared.refusal.Refusal.{Refusal}
 use Rattle.spiel_cli.specs.declared.refusal.Refusal.TheVariants.{Usage, Read, Bad, Unjudged, Unfit, Overflow, NoMemory}
 use Rattle.spiel_cli.specs.declared.refusal.BadInput.TheVariants.{FileTooLong}
-use Rattle.spiel_cli.proofs.Completion.{completed, known_decided}
+use Rattle.spiel_cli.proofs.Completion.{known_decided}
 
 -- ---- what was given, of what is reached
 pub decide_gave : {A F : Type 0} (refusal : F → Refusal) (r : Result A F) (told : Option Files) (a : A) → Reaches (decide refusal r) told (Ok a) → r ≡ Ok a

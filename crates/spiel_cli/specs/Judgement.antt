@@ -1,6 +1,6 @@
 -- What holds of a report on a policy: that it speaks of the game and the policy of the words, and that its numbers
 -- and responses are what they are called.
-use Rattle.std.specs.Prelude.{◌≡◌, ℕ, ◌<◌, ◌≤◌, Bool, List, Option, Some, None, Result, Ok, length, pos, ◌≤ℤ◌, ◌<ℤ◌, ⊤}
+use Rattle.std.specs.Prelude.{◌≡◌, ℕ, ◌<◌, ◌≤◌, Bool, List, Option, Some, None, Ok, length, pos, ◌≤ℤ◌, ◌<ℤ◌, ⊤}
 use Rattle.std.specs.Io.KnownBytes.{append_known}
 use Rattle.spiel_io.specs.Outside.{Files, SinkState, held}
 use Rattle.spiel_io.specs.Plan.{Reaches}

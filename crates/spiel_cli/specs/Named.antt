@@ -1,6 +1,6 @@
 -- The game that a word names.
 use Rattle.std.specs.Prelude.{List, ℕ}
-use Rattle.spiel_io.specs.Plan.{Plan, Give, ◌>>=◌}
+use Rattle.spiel_io.specs.Plan.{Plan, ◌>>=◌}
 use Rattle.spiel_api.specs.Rules.{Rules}
 use Rattle.spiel_string.specs.Answer.{reading}
 use Rattle.spiel_string.specs.Game.{Game}

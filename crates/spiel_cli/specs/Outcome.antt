@@ -1,5 +1,5 @@
 -- What the words come to, over the files: it knows nothing of faults, of memory or of loops.
-use Rattle.std.specs.Prelude.{ℕ, List, [], ◌∷◌, Option, Some, None, Result, Ok, Err, if◌then◌else◌}
+use Rattle.std.specs.Prelude.{ℕ, List, [], Option, Some, None, Result, Ok, Err, if◌then◌else◌}
 use Rattle.spiel_io.specs.Outside.{Files}
 use Rattle.spiel_io.specs.Plan.{Plan, Refuse, decided}
 use Rattle.spiel_cli.specs.Refusal.{message_of, status_of}

@@ -12,7 +12,7 @@ use Rattle.spiel_cli.specs.declared.policies.NamedPolicy.TheVariants.{First, Uni
 use Rattle.spiel_cli.specs.declared.refusal.Refusal.{Refusal}
 
 -- the policy of a name
-abbrev pub name_of : List ℕ → Option NamedPolicy
+unfoldable pub name_of : List ℕ → Option NamedPolicy
 name_of word =
     if bytes_eq word (codes "uniform") then Some Uniform
     else if bytes_eq word (codes "first") then Some First

@@ -176,11 +176,15 @@ unfit_message (Action entry) = codes "policy: action in entry " ++ decimal entry
 unfit_message (Sum entry) = codes "policy: sum in entry " ++ decimal entry
 unfit_message (Missing player text) = codes "policy: no entry for player " ++ decimal player ++ codes " state " ++ text
 
+abbrev pub reason_of : Refusal → List ℕ
+reason_of Usage = codes "usage: spiel VERB ARGUMENTS"
+reason_of Read = codes "read fault"
+reason_of (Bad bad) = bad_message bad
+reason_of (Unjudged game) = unjudged_message game
+reason_of (Unfit unfit) = unfit_message unfit
+reason_of Overflow = codes "numbers pass 127 bits"
+reason_of NoMemory = codes "no memory"
+
+-- what the program says of a refusal
 abbrev pub message_of : Refusal → List ℕ
-message_of Usage = line (codes "usage: spiel VERB ARGUMENTS")
-message_of Read = line (codes "read fault")
-message_of (Bad bad) = line (bad_message bad)
-message_of (Unjudged game) = line (unjudged_message game)
-message_of (Unfit unfit) = line (unfit_message unfit)
-message_of Overflow = line (codes "numbers pass 127 bits")
-message_of NoMemory = line (codes "no memory")
+message_of refusal = line (reason_of refusal)

@@ -1,6 +1,6 @@
 -- The report on a policy: what each player gets, what the best response would get, how far the policy is
 -- from an equilibrium, and the response.
-use Rattle.std.specs.Prelude.{ℕ, ◌*◌, Bool, List, [], ◌∷◌, ◌++◌, length, map, slice_index, codes, pos, ◌*ℤ◌, if◌then◌else◌}
+use Rattle.std.specs.Prelude.{ℕ, Bool, List, [], ◌++◌, length, map, slice_index, codes, pos, ◌*ℤ◌, if◌then◌else◌}
 use Rattle.std.specs.Fmt.{decimal}
 use Rattle.spiel_frac.specs.Fraction.{frac_text, lowest_terms}
 use Rattle.spiel_io.specs.Plan.{Plan, Give, Refuse, ◌>>=◌}

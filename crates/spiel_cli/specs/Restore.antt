@@ -25,9 +25,13 @@ state_text game h = ended (title_line game.text) ++ block_text game.rules h
 abbrev pub shown : List ℕ → NamedGame → Plan Done Refusal
 shown h game = unless of_walk (walk_fault game.rules h) (Give (written (state_text game h)))
 
+-- the state of a saved play, whose game is that of its string
+abbrev pub shown_play : Played → Plan Done Refusal
+shown_play played = with_rules played.0 (shown played.1)
+
 -- what the bytes of a saved file show
 abbrev pub restored : List ℕ → Plan Done Refusal
-restored bytes = decide of_saved (reading_saved bytes) >>= λ played. with_rules played.0 (shown played.1)
+restored bytes = decide of_saved (reading_saved bytes) >>= shown_play
 
 -- `restore FILE`
 abbrev pub restore_plan : List ℕ → Plan Done Refusal

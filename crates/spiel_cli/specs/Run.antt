@@ -35,17 +35,20 @@ write_fault = line (codes "write fault")
 abbrev pub no_memory : List ℕ
 no_memory = line (codes "no memory")
 
--- an answer was written, with this status
-abbrev pub IsWritten : Result Done Refusal → ℕ → SinkState → SinkState → SinkState → SinkState → Type 0
-IsWritten (Ok done) status out out' err err' =
-    -- all of it, and nothing to the messages
+-- what a command gives was written, with this status: all of it, and nothing to the messages, or a front, and a write fault
+abbrev pub IsWrittenDone : Done → ℕ → SinkState → SinkState → SinkState → SinkState → Type 0
+IsWrittenDone done status out out' err err' =
     ((status ≡ done_status done) × (out'.taken ≡ append_known out.taken done.out) × (out'.faults ≡ out.faults) × IsUntouched err err')
-    -- or a front, and a write fault
     ⊎ ((status ≡ 7) × TakesFront done.out out out' × (out.faults ≤ out'.faults) × Rose out.faults out'.faults × Says write_fault err err')
-IsWritten (Err refusal) status out out' err err' =
-    -- the refusal's message alone, or want of memory
-    IsUntouched out out'
-    × (((status ≡ status_of refusal) × Says (message_of refusal) err err') ⊎ ((status ≡ 8) × Says no_memory err err'))
+
+-- a refusal's message was said, with its status, or want of memory
+abbrev pub IsSaid : Refusal → ℕ → SinkState → SinkState → Type 0
+IsSaid refusal status err err' = ((status ≡ status_of refusal) × Says (message_of refusal) err err') ⊎ ((status ≡ 8) × Says no_memory err err')
+
+-- an answer was written, with this status; after a refusal nothing but its message was
+abbrev pub IsWritten : Result Done Refusal → ℕ → SinkState → SinkState → SinkState → SinkState → Type 0
+IsWritten (Ok done) status out out' err err' = IsWrittenDone done status out out' err err'
+IsWritten (Err refusal) status out out' err err' = IsUntouched out out' × IsSaid refusal status err err'
 
 -- the status, and what the sinks took, are the outcome's
 pub record Completes (outcome : Outcome) (status : ℕ) (out out' err err' : SinkState) : Type 0 where

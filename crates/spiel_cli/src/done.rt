@@ -1,7 +1,7 @@
 use spiel_frac::Text;
 
 /// What a command that was done writes.
-#[derive(Debug, Drop)]
+#[derive(Drop)]
 pub struct Done {
     /// All bytes for the output.
     pub out: Text,

@@ -92,6 +92,17 @@ fn push_bests(alloc: Global, work: &mut Work, players: u32, out: &mut Text) -> R
     Ok(())
 }
 
+/// NashConv, in lowest terms.
+fn nash_conv_fraction(work: &Work) -> Frac
+    requires { (p : ℕ) → p < work.now.judged.tree.players → is_made work.now p ≡ true }
+    ensures gap { pos 0 ≤ℤ nash_conv_of work.now.judged }
+    ensures denominator { pos 0 <ℤ denominator_of work.now.judged }
+    ensures fits { NumbersFit work.now.judged }
+    ensures fraction { result ≡ lowest_terms (nash_conv_of work.now.judged) (denominator_of work.now.judged) }
+{
+    Frac::new(nash_conv(work), work.total()).unwrap()
+}
+
 /// Adds the line of NashConv.
 fn push_nash_conv(alloc: Global, work: &Work, out: &mut Text) -> Result<(), NoMemory>
     requires { (p : ℕ) → p < work.now.judged.tree.players → is_made work.now p ≡ true }
@@ -101,11 +112,7 @@ fn push_nash_conv(alloc: Global, work: &Work, out: &mut Text) -> Result<(), NoMe
     ensures line { OnOk result (out.new ≡ out.old ++ ended (nash_conv_line work.now.judged)) }
 {
     out.push(b"nash_conv ")?;
-    write_frac(
-        alloc,
-        Frac::new(nash_conv(work), work.total()).unwrap(),
-        out,
-    )?;
+    write_frac(alloc, nash_conv_fraction(work), out)?;
     out.push(b"\n")
 }
 
@@ -135,6 +142,25 @@ fn push_exploitability(alloc: Global, work: &Work, out: &mut Text) -> Result<(),
     out.push(b"\n")
 }
 
+/// Adds the line of a player's answer to what is seen.
+fn push_answer_line(
+    alloc: Global,
+    player: u32,
+    number: u32,
+    seen: &[u8],
+    out: &mut Text,
+) -> Result<(), NoMemory>
+    ensures { OnOk result (out.new ≡ out.old ++ ended (codes "answer " ++ decimal player ++ codes " " ++ decimal number ++ codes " " ++ seen.now)) }
+{
+    out.push(b"answer ")?;
+    write_number(alloc, player, out)?;
+    out.push(b" ")?;
+    write_number(alloc, number, out)?;
+    out.push(b" ")?;
+    out.push(seen)?;
+    out.push(b"\n")
+}
+
 /// Adds the line of what the best response takes at an information state.
 fn push_answer(
     alloc: Global,
@@ -148,13 +174,13 @@ fn push_answer(
     requires made { (p : ℕ) → p < work.now.judged.tree.players → is_made work.now p ≡ true }
     ensures { OnOk result (out.new ≡ out.old ++ ended (answer_line work.now.judged state)) }
 {
-    out.push(b"answer ")?;
-    write_number(alloc, tree.state_player(state), out)?;
-    out.push(b" ")?;
-    write_number(alloc, answer_at(work, state), out)?;
-    out.push(b" ")?;
-    out.push(tree.state_text(state))?;
-    out.push(b"\n")
+    push_answer_line(
+        alloc,
+        tree.state_player(state),
+        answer_at(work, state),
+        tree.state_text(state),
+        out,
+    )
 }
 
 /// Adds a line for each information state.

@@ -17,7 +17,7 @@ use spiel_tree::Tree;
 use std::alloc::Global;
 
 /// A policy that each game has.
-#[derive(Clone, Copy, Debug, PartialEq, Eq)]
+#[derive(Clone, Copy)]
 pub enum NamedPolicy {
     /// `uniform`: whoever moves takes each number with the same probability.
     Uniform,
@@ -26,6 +26,7 @@ pub enum NamedPolicy {
 }
 
 /// The policy of this name.
+#[tactic(auto, unfolding(crate::specs::Policies::name_of))]
 fn read_name(word: &[u8]) -> Option<NamedPolicy>
     ensures { result ≡ name_of word.now }
 {

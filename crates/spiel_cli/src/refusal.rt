@@ -2,7 +2,7 @@ ghost use Rattle.std.specs.Prelude.{◌≡◌, ◌∷◌, ◌++◌, codes, cond,
 ghost use Rattle.std.specs.Fmt.{decimal};
 ghost use Rattle.spiel_string.specs.Faults as of_strings;
 ghost use Rattle.spiel_save.specs.Faults as of_files;
-ghost use Rattle.spiel_cli.specs.Refusal.{bad_message, history_text, message_of, load_message, of_fetch, of_judge, of_load, of_saved, of_string, of_tree, of_walk, of_words, pair_text, repeat_message, start_message, status_of, unfit_message, unjudged_message};
+ghost use Rattle.spiel_cli.specs.Refusal.{bad_message, history_text, message_of, load_message, of_fetch, of_judge, of_load, of_saved, of_string, of_tree, of_walk, of_words, pair_text, reason_of, repeat_message, start_message, status_of, unfit_message, unjudged_message};
 ghost use Rattle.spiel_cli.specs.declared.refusal.Refusal.TheVariants.{NoMemory as OutOfMemory};
 
 use spiel_api::WalkFault;
@@ -18,7 +18,7 @@ use spiel_words::WordsFault;
 use std::alloc::Global;
 
 /// Why a command is refused, or can't be done.
-#[derive(Debug, Drop)]
+#[derive(Drop)]
 pub enum Refusal {
     /// The words are no command.
     Usage,
@@ -37,7 +37,7 @@ pub enum Refusal {
 }
 
 /// What is no good about a command's input.
-#[derive(Debug, Drop)]
+#[derive(Drop)]
 pub enum BadInput {
     /// The file has more bytes than a file may have.
     FileTooLong,
@@ -62,7 +62,7 @@ pub enum BadInput {
 }
 
 /// Why a game can't be judged: see `TreeFault`.
-#[derive(Debug, Drop)]
+#[derive(Drop)]
 pub enum Unjudged {
     /// There are more than 1,048,576 histories.
     TooMany,
@@ -85,7 +85,7 @@ pub enum Unjudged {
 }
 
 /// Why a policy file gives no policy of a game: see `PolicyFault`.
-#[derive(Debug, Drop)]
+#[derive(Drop)]
 pub enum Unfit {
     /// This entry is for an information state that the game hasn't.
     UnknownState { entry: u32 },
@@ -442,29 +442,26 @@ fn push_unfit(alloc: Global, unfit: &Unfit, out: &mut Text) -> Result<(), NoMemo
     }
 }
 
+/// Adds why a command is refused, or can't be done, in words.
+fn push_reason(alloc: Global, refusal: &Refusal, out: &mut Text) -> Result<(), NoMemory>
+    ensures { OnOk result (out.new ≡ out.old ++ reason_of refusal.now) }
+{
+    match refusal {
+        Refusal::Usage => out.push(b"usage: spiel VERB ARGUMENTS"),
+        Refusal::Read => out.push(b"read fault"),
+        Refusal::Bad(bad) => push_bad(alloc, bad, out),
+        Refusal::Unjudged(game) => push_unjudged(alloc, game, out),
+        Refusal::Unfit(unfit) => push_unfit(alloc, unfit, out),
+        Refusal::Overflow => out.push(b"numbers pass 127 bits"),
+        Refusal::NoMemory => out.push(b"no memory"),
+    }
+}
+
 /// Adds the line that is said about a refusal.
 pub fn push_message(alloc: Global, refusal: &Refusal, out: &mut Text) -> Result<(), NoMemory>
     ensures { OnOk result (out.new ≡ out.old ++ message_of refusal.now) }
 {
-    match refusal {
-        Refusal::Usage => out.push(b"spiel: usage: spiel VERB ARGUMENTS\n"),
-        Refusal::Read => out.push(b"spiel: read fault\n"),
-        Refusal::Bad(bad) => {
-            out.push(b"spiel: ")?;
-            push_bad(alloc, bad, out)?;
-            out.push(b"\n")
-        }
-        Refusal::Unjudged(game) => {
-            out.push(b"spiel: ")?;
-            push_unjudged(alloc, game, out)?;
-            out.push(b"\n")
-        }
-        Refusal::Unfit(unfit) => {
-            out.push(b"spiel: ")?;
-            push_unfit(alloc, unfit, out)?;
-            out.push(b"\n")
-        }
-        Refusal::Overflow => out.push(b"spiel: numbers pass 127 bits\n"),
-        Refusal::NoMemory => out.push(b"spiel: no memory\n"),
-    }
+    out.push(b"spiel: ")?;
+    push_reason(alloc, refusal, out)?;
+    out.push(b"\n")
 }

@@ -5,7 +5,7 @@ ghost use Rattle.spiel_string.specs.View.{view};
 ghost use Rattle.spiel_string.specs.WellFormed.{IsWellFormed};
 ghost use Rattle.spiel_cli.specs.Deciding.{decide, file_limit, seeing};
 ghost use Rattle.spiel_cli.specs.Refusal.{kind_of, of_saved};
-ghost use Rattle.spiel_cli.specs.Restore.{played_of, restore_plan, restored, shown};
+ghost use Rattle.spiel_cli.specs.Restore.{played_of, restore_plan, restored, shown, shown_play};
 
 use crate::done::Done;
 use crate::files::read_named;
@@ -45,14 +45,22 @@ fn show_state<G: Game>(
     Ok(Done { out, same: true })
 }
 
+/// The game of a saved play, and the lines of its state.
+fn show_saved(alloc: Global, saved: &Saved) -> Result<Done, Refusal>
+    requires { IsWellFormed (view saved.now.game) }
+    ensures { Agrees kind_of (shown_play (played_of saved.now)) None result }
+{
+    let game = load_named(alloc, &saved.game)?;
+    show_state(alloc, game, &saved.game, saved.history.items())
+}
+
 /// What the bytes of a saved file show.
 fn restore_bytes(alloc: Global, bytes: &[u8]) -> Result<Done, Refusal>
     requires { length bytes.now ≤ file_limit }
     ensures { Agrees kind_of (restored bytes.now) None result }
 {
     let saved = read_play(alloc, bytes)?;
-    let game = load_named(alloc, &saved.game)?;
-    show_state(alloc, game, &saved.game, saved.history.items())
+    show_saved(alloc, &saved)
 }
 
 /// `restore FILE`: the state of a saved play.

@@ -2,7 +2,5 @@
 #![tactic(auto)]
 
 mod liars_dice;
-#[cfg(test)]
-mod tests;
 
 pub use liars_dice::{BadDice, LiarsDice, LiarsDiceState};

@@ -164,3 +164,14 @@ module _ {G S : Type 0} {inner : Ghosts G S} {game : Repeated G} {state : Repeat
     pay_fits p j l e w =
         let all : game.times * (inner.rules game.stage).players ≤ length state.history = subst (λ t. t * (inner.rules game.stage).players ≤ length state.history) (all_over e) at.long in
         omega (arith, pay_bound (inner.rules game.stage) laws game.times at.can.shot state.history p at.play l all j w, mul-le-mul_right (inner.rules game.stage).cap w, at.can.cap_fits)
+
+-- a round more stands for its piece
+module _ {G S : Type 0} (inner : Ghosts G S) (stage : G) (n : ℕ) (h : List ℕ) where
+  pub round_more : (i : ℕ) (rounds new : List S) (s : S) → length rounds ≡ i → new ≡ rounds ++ s ∷ []
+      → ((j : ℕ) (d : S) → j < i → IsRoundAt inner stage n j h (slice_index_or rounds j d)) → IsRoundAt inner stage n i h s
+      → (j : ℕ) (d : S) → j < i + 1 → IsRoundAt inner stage n j h (slice_index_or new j d)
+  round_more i rounds new s long added before here j d l = subst (λ (xs : List S). IsRoundAt inner stage n j h (slice_index_or xs j d)) (sym added) (elim (decide j i) [
+    | inl w ↦ subst (IsRoundAt inner stage n j h) (sym (get_or_append_left rounds (s ∷ []) d j (omega (arith, w, long)))) (before j d w)
+    | inr w ↦ (let same : i ≡ j = omega arith in
+        subst (IsRoundAt inner stage n j h) (sym (get_or_push rounds s d j (long ∙ same))) (subst (λ (k : ℕ). IsRoundAt inner stage n k h s) same here))
+  ])

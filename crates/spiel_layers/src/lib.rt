@@ -6,8 +6,6 @@ mod layer;
 mod misere;
 mod repeated;
 mod start_at;
-#[cfg(test)]
-mod tests;
 mod told;
 mod turn_based;
 

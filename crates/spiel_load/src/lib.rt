@@ -1,6 +1,7 @@
 //! Games by their names: what a game string names, with its parameters.
 #![tactic(auto)]
 
+mod any;
 mod base;
 mod fault;
 mod given;
@@ -11,10 +12,9 @@ mod nesting;
 mod params;
 mod settings;
 mod table;
-#[cfg(test)]
-mod tests;
 mod transforms;
 
+pub use any::{Any, AnyState};
 pub use base::{Base, BaseState};
 pub use fault::LoadFault;
-pub use loading::{Any, load};
+pub use loading::load;

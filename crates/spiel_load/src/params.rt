@@ -11,7 +11,7 @@ use crate::histories::is_history;
 use spiel_string::ParamValue;
 
 /// The values that a parameter may have.
-#[derive(Clone, Copy, Debug)]
+#[derive(Clone, Copy)]
 pub enum Range {
     /// A whole number that is no less than the first of these and no more than the second.
     Whole { least: u64, most: u64 },
@@ -26,7 +26,7 @@ pub enum Range {
 }
 
 /// A value that is no game: one that is given, or one that stands in the table.
-#[derive(Clone, Copy, Debug)]
+#[derive(Clone, Copy)]
 pub enum Setting<'a> {
     Whole(i64),
     Flag(bool),
@@ -34,7 +34,7 @@ pub enum Setting<'a> {
 }
 
 /// A parameter of a game.
-#[derive(Clone, Copy, Debug)]
+#[derive(Clone, Copy)]
 pub struct Param {
     pub key: &'static [u8],
     pub range: Range,

@@ -11,7 +11,7 @@ use crate::params::{Param, Range, Setting};
 use spiel_matrix::Kind;
 
 /// A game that has a name.
-#[derive(Clone, Copy, Debug, PartialEq, Eq)]
+#[derive(Clone, Copy)]
 pub enum Known {
     /// `goofspiel`
     Goofspiel,
@@ -81,7 +81,7 @@ static LIARS_DICE: [Param; 3] = [
 static NO_PARAMS: [Param; 0] = [];
 
 /// A name, and the game that has it.
-#[derive(Clone, Copy, Debug)]
+#[derive(Clone, Copy)]
 struct Entry {
     name: &'static [u8],
     game: Known,

@@ -15,7 +15,7 @@ use spiel_string::ParamValue;
 use std::alloc::Global;
 
 /// A transform that has a name.
-#[derive(Clone, Copy, Debug, PartialEq, Eq)]
+#[derive(Clone, Copy)]
 pub enum Transform {
     /// `misere`
     Misere,

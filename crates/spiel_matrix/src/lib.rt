@@ -9,8 +9,6 @@ mod names;
 mod parts;
 mod pays;
 mod shape;
-#[cfg(test)]
-mod tests;
 
 pub use fault::MatrixFault;
 pub use matrix::Matrix;

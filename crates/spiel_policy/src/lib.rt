@@ -9,8 +9,6 @@ mod made;
 mod policy;
 mod reading;
 mod tables;
-#[cfg(test)]
-mod tests;
 mod weighing;
 mod writing;
 

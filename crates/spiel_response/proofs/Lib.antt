@@ -31,3 +31,4 @@ pub mod SeenTexts
 pub mod SlotSteps
 pub mod SlotSums
 pub mod StateOrder
+pub mod LeafParts

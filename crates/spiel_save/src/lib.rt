@@ -9,8 +9,6 @@ mod lines;
 mod numbers;
 mod reader;
 mod saved;
-#[cfg(test)]
-mod tests;
 mod writer;
 
 pub use fault::SavedFault;

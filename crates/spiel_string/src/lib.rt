@@ -8,8 +8,6 @@ mod pairs;
 mod read;
 mod scan;
 mod step;
-#[cfg(test)]
-mod tests;
 mod track;
 mod value;
 mod words;

@@ -66,12 +66,13 @@ impl Rows {
         ensures built { IfOk result (λ t. IsBuilt t) }
         ensures players { IfOk result (λ t. length t.texts.items ≡ players) }
     {
+        let texts = no_texts(alloc, players)?;
         Ok(Rows {
             flat: List::new(alloc),
             numbers: Packed::new(alloc),
             weights: Packed::new(alloc),
             pays: Packed::new(alloc),
-            texts: no_texts(alloc, players)?,
+            texts,
         })
     }
 

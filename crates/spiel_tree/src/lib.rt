@@ -8,8 +8,6 @@ mod history;
 mod node;
 mod pasts;
 mod states;
-#[cfg(test)]
-mod tests;
 mod texts;
 mod tree;
 mod walking;

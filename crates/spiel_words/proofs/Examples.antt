@@ -121,3 +121,21 @@ empty_word_for_a_value = refl
 
 option_twice : played ("g" ∷ "--seed" ∷ "1" ∷ "--seed=2" ∷ []) ≡ None
 option_twice = refl
+
+name_of_an_option_for_a_value : played ("--seed=--" ∷ "--" ∷ "--seed" ∷ []) ≡ Some (given "seed" "--" ∷ given "game" "--seed" ∷ [])
+name_of_an_option_for_a_value = refl
+
+option_before_dashes : played ("--seed" ∷ "1" ∷ "--" ∷ "-g" ∷ []) ≡ Some (given "seed" "1" ∷ given "game" "-g" ∷ [])
+option_before_dashes = refl
+
+dashes_and_a_word_for_a_value : played ("g" ∷ "--seed" ∷ "--" ∷ "1" ∷ []) ≡ None
+dashes_and_a_word_for_a_value = refl
+
+option_cut_short : played ("g" ∷ "--sed" ∷ "1" ∷ []) ≡ None
+option_cut_short = refl
+
+option_takes_the_place : played ("--seed" ∷ "g" ∷ []) ≡ None
+option_takes_the_place = refl
+
+place_too_many : played ("g" ∷ "1" ∷ "--seed=1" ∷ []) ≡ None
+place_too_many = refl

@@ -8,8 +8,6 @@ mod laws;
 mod line;
 mod rules;
 mod shape;
-#[cfg(test)]
-mod tests;
 mod verbs;
 
 pub use command::Command;

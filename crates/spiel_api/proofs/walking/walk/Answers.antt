@@ -1,5 +1,6 @@
 use Rattle.std.proofs.Common.{rules, ◌≡◌, ℕ, List, Some, length, arith, ap, subst, ◌∙◌}
 use Rattle.std.proofs.lemmas.List.{take_all}
+use Rattle.std.proofs.lemmas.Grind.{common_steps}
 use Rattle.spiel_api.specs.declared.place.Place.{Place}
 use Rattle.spiel_api.specs.declared.walking.WalkFault.TheVariants.{Unfinished}
 use Rattle.spiel_api.specs.Rules.{Rules}
@@ -26,3 +27,6 @@ returns-clause-computed g c =
     let state = c.loop-action.invariant.state in
     let e = state.history ∙ take_all _ _ c.loop-action-test.false in
     walked _ _ _ _ e (g.met.G.Game.plays _ _ state.sound) c.place.ensures ∙ fault_at_end-outside _ _ c.if-is_inside.ensures
+
+pub loop-action-preserved : goal.loop-action-preserved
+loop-action-preserved g c = grind (arith, common_steps)

@@ -4,5 +4,5 @@ use Rattle.spiel_cli.proofs.restore.restore_bytes.Goals as goal
 
 pub returns : goal.returns
 returns c =
-    shown_then c.args.bytes.now (played_of c.in_ok-saved.saved) _ c.items.result.now c.show_state.result
-    c.in_ok-saved.ensures.agrees c.in_ok-game.ensures.agrees c.items.ensures c.show_state.ensures
+    shown_then c.args.bytes.now (played_of c.in_ok-saved.saved) c.show_saved.result
+    c.in_ok-saved.ensures.agrees c.show_saved.ensures

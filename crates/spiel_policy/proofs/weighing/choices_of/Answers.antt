@@ -1,4 +1,5 @@
-use Rattle.std.proofs.Common.{ap, ◌∙◌, refl, List, ℕ, Option, None}
+use Rattle.std.proofs.Common.{arith, ap, ◌∙◌, refl, List, ℕ, Option, None}
+use Rattle.std.proofs.lemmas.Grind.{common_steps}
 use Rattle.std.specs.Prelude.{replicate}
 use Rattle.spiel_tree.specs.States.{numbers_of}
 use Rattle.spiel_policy.specs.declared.entries.Pair.{Pair}
@@ -12,3 +13,12 @@ loop-pair-init c =
       table = c.in_ok-table.ensures ∙ ap empty c.action_count.ensures.count ∙ empty_is (numbers_of c.args.tree.now.players c.args.tree.now.rows c.args.state);
       rest = refl;
     }
+
+pub loop-pair-preserved : goal.loop-pair-preserved
+loop-pair-preserved c = grind (arith, common_steps)
+
+pub returns-then-not-note : goal.returns-then-not-note
+returns-then-not-note c = grind (arith, common_steps)
+
+pub returns : goal.returns
+returns c = grind (arith, common_steps)

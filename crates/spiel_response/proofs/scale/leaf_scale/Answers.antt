@@ -1,6 +1,7 @@
 use Rattle.std.proofs.Common.{◌≡◌, ◌+◌, ◌<◌, ℕ, length, subst, ap, arith, ◌∙◌}
 use Rattle.std.specs.Prelude.{IfNone, Option, None, Some}
 use Rattle.spiel_frac.specs.Fraction.{most}
+use Rattle.std.proofs.lemmas.Grind.{common_steps}
 use Rattle.spiel_response.specs.Reach.{scale_of}
 use Rattle.spiel_response.specs.Values.{Judged}
 use Rattle.spiel_response.specs.Weighed.{IsJudgeable, scale_before}
@@ -24,3 +25,6 @@ returns-clause-some c =
     let rows : length c.weighed.inside.tree.now.rows ≡ length judged.tree.rows = ap (λ (j : Judged). length j.tree.rows) c.weighed.view_is in
     let all = scale_all judged c.loop-row.row (omega (arith, rows, c.loop-row-test.false, c.histories-row-end.ensures.count)) in
     (c.loop-row.invariant.0 ∙ all, c.loop-row.invariant.1)
+
+pub loop-row-preserved : goal.loop-row-preserved
+loop-row-preserved c = grind (arith, common_steps)

@@ -1,8 +1,9 @@
-use Rattle.std.proofs.Common.{◌≡◌, ◌≤◌, ◌*◌, ℕ, ℤ, length, false, ap, ap₂, subst, ◌∙◌, rules, pos, ◌*ℤ◌}
+use Rattle.std.proofs.Common.{arith, ◌≡◌, ◌≤◌, ◌*◌, ℕ, ℤ, length, false, ap, ap₂, subst, ◌∙◌, rules, pos, ◌*ℤ◌}
 use Rattle.std.specs.Prelude.{FitsSigned, nat_abs, replicate}
 use Rattle.std.specs.Int.{w64, w128}
 use Rattle.std.proofs.lemmas.Int.{to_z-of_z}
 use Rattle.spiel_frac.specs.Fraction.{most}
+use Rattle.std.proofs.lemmas.Grind.{common_steps}
 use Rattle.spiel_response.specs.Reach.{scale_of}
 use Rattle.spiel_response.specs.SlotTable.{AreSlotSums}
 use Rattle.spiel_response.specs.Values.{Judged, denominator_of, size_below, values_below}
@@ -38,3 +39,21 @@ invariant_of-result-2 c =
           (c.in_ok-responses.ensures.earned ∙ c.players.ensures)
           (record { sums_count = c.in_ok-responses.ensures.sums ∙ long ∙ gathered.sums_are.count; answers_count = c.in_ok-responses.ensures.answers ∙ c.states.ensures.count });
     }
+
+pub returns-clause-judged : goal.returns-clause-judged
+returns-clause-judged c = grind (arith, common_steps)
+
+pub returns-clause-none_made : goal.returns-clause-none_made
+returns-clause-none_made c = grind (arith, common_steps)
+
+pub returns-clause-fits : goal.returns-clause-fits
+returns-clause-fits c = grind (arith, common_steps)
+
+pub returns-in_default-clause-fault : goal.returns-in_default-clause-fault
+returns-in_default-clause-fault c = grind (arith, common_steps)
+
+pub returns-in_err-values-clause-fault : goal.returns-in_err-values-clause-fault
+returns-in_err-values-clause-fault c = grind (arith, common_steps)
+
+pub returns-in_err-scale-clause-fault : goal.returns-in_err-scale-clause-fault
+returns-in_err-scale-clause-fault c = grind (arith, common_steps)
