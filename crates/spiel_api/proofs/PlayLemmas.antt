@@ -49,6 +49,11 @@ IsPlay-front rules h i play = record { steps = Follows-front (next_of rules) [] 
 pub IsPlay-last : (rules : Rules) (h : List ℕ) (a : ℕ) → IsPlay rules (h ++ a ∷ []) → Contains (next_of rules h) a
 IsPlay-last rules h a play = (Follows-back (next_of rules) [] h (a ∷ []) play.steps).0
 
+-- the last number taken back
+pub IsPlay-back : (rules : Rules) (before after h : List ℕ) (a : ℕ) → IsPlay rules before → before ≡ h ++ a ∷ [] → after ≡ h → IsPlay rules after
+IsPlay-back rules before after h a play e f =
+    subst (IsPlay rules) (sym f) (IsPlay-front rules h (a ∷ []) (subst (IsPlay rules) e play))
+
 pub IsPlay-take : (rules : Rules) (h : List ℕ) (k : ℕ) → IsPlay rules h → IsPlay rules (take k h)
 IsPlay-take rules h k play =
     IsPlay-front rules (take k h) (drop k h) (subst (λ z. IsPlay rules z) (sym (take-append-drop k h)) play)

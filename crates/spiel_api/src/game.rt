@@ -151,6 +151,13 @@ pub trait Game: Drop {
         ensures ok { OnOk result (StandsFor (is_at self.now) (history_of self.now) state.new (history_of self.now state.old ++ action ∷ [])) }
         ensures err { OnErr result (state.new ≡ state.old) };
 
+    /// Takes the last number of the play back (UndoAction of OpenSpiel). Takes no memory.
+    fn undo(&self, state: &mut Self::State)
+        requires at { is_at self.now state.old }
+        requires some { 0 < length (history_of self.now state.old) }
+        ensures { (h : List ℕ) (a : ℕ) → history_of self.now state.old ≡ h ++ a ∷ []
+            → StandsFor (is_at self.now) (history_of self.now) state.new h };
+
     /// A second state that stands for the same play.
     fn copy(&self, alloc: Global, state: &Self::State) -> Result<Self::State, NoMemory>
         requires { is_at self.now state.now }

@@ -2,19 +2,19 @@
 use Rattle.std.proofs.Common.{◌≡◌, ℕ, ◌+◌, ◌<◌, ◌≤◌, ◌%◌, Bool, true, false, not, ◌||◌, List, [], ◌∷◌, ◌++◌, length, take, drop, get_or, set, cond, Option, Some, refl, ap, sym, subst, ◌∙◌, arith, ◌==◌}
 use Rattle.std.specs.Prelude.{slice_index}
 use Rattle.std.specs.List.{Contains, filter}
-use Rattle.std.proofs.lemmas.Bool.{eq-eqb}
-use Rattle.std.proofs.lemmas.List.{get_or_at, take-append-drop, take_all}
+use Rattle.std.proofs.lemmas.Bool.{eq-eqb, or_parts}
+use Rattle.std.proofs.lemmas.List.{get_or_at, take-append-drop, take_all, set-set, set-get_or}
 use Rattle.std.proofs.Math.Seq.{append_snoc}
 use Rattle.std.proofs.lemmas.List.Elements.{filter_more, filter-append}
 use Rattle.std.proofs.lemmas.List.Filters.{length-filter_more}
 use Rattle.spiel_api.specs.Rules.{next_of}
 use Rattle.spiel_api.specs.Plays.{IsPlay}
 use Rattle.spiel_api.specs.Walks.{is_in}
-use Rattle.spiel_api.proofs.PlayLemmas.{IsPlay-more}
-use Rattle.spiel_board.specs.TicTacToe.{cells, cells_of, has_three, free_cells, cells_for, tic_tac_toe_rules}
+use Rattle.spiel_api.proofs.PlayLemmas.{IsPlay-more, IsPlay-last, IsPlay-back}
+use Rattle.spiel_board.specs.TicTacToe.{cells, cells_of, has_three, free_cells, cells_for, next_player, tic_tac_toe_rules}
 use Rattle.spiel_board.specs.declared.tic_tac_toe.TicTacToeState.{TicTacToeState}
 use Rattle.spiel_board.specs.TicTacToeState.{marks, IsTicTacToeAt}
-use Rattle.spiel_board.specs.TicTacToePlays.{length-cells, get_or-cells, get_or-marks, marks-push, play_small, next_small}
+use Rattle.spiel_board.specs.TicTacToePlays.{length-cells, get_or-cells, get_or-marks, marks-push, free_unmarked, next_free, play_small, next_small}
 
 -- the player whose turn it is marks the cell
 pub record IsFirstMarking (h : List ℕ) (a : ℕ) : Type 0 where
@@ -25,7 +25,7 @@ pub record IsSecondMarking (h : List ℕ) (a : ℕ) : Type 0 where
   pub crosses : cells_of 0 (h ++ a ∷ []) ≡ cells_of 0 h
   pub noughts : cells_of 1 (h ++ a ∷ []) ≡ cells_of 1 h ++ a ∷ []
 
-cells_of-push : (h : List ℕ) (a : ℕ) → (length h % 2 ≡ 0 → IsFirstMarking h a) × (length h % 2 ≡ 1 → IsSecondMarking h a)
+pub cells_of-push : (h : List ℕ) (a : ℕ) → (length h % 2 ≡ 0 → IsFirstMarking h a) × (length h % 2 ≡ 1 → IsSecondMarking h a)
 cells_of-push [] a = (λ e. record { crosses = refl; noughts = refl }, λ e. absurd (omega arith))
 cells_of-push (x ∷ h) a = by (cells_of-push h a)
   where
@@ -106,6 +106,47 @@ after_second s t a at c e h x o =
       play = subst (λ (i : List ℕ). IsPlay tic_tac_toe_rules i) (sym h) (IsPlay-more tic_tac_toe_rules s.history a at.play c);
       crosses = x ∙ at.crosses ∙ ap marks (sym marking.crosses) ∙ ap (λ (i : List ℕ). marks (cells_of 0 i)) (sym h);
       noughts = o ∙ ap (λ (b : List Bool). set b a true) at.noughts ∙ sym (marks-push (cells_of 1 s.history) a small) ∙ ap marks (sym marking.noughts) ∙ ap (λ (i : List ℕ). marks (cells_of 1 i)) (sym h);
+    }
+
+-- a mark taken back
+marks-back : (xs : List ℕ) (a : ℕ) → a < 9 → is_in xs a ≡ false → set (marks (xs ++ a ∷ [])) a false ≡ marks xs
+marks-back xs a l none =
+    ap (λ (b : List Bool). set b a false) (marks-push xs a l) ∙ set-set (marks xs) a true false
+    ∙ ap (λ (m : Bool). set (marks xs) a m) (sym (get_or-marks xs a false l ∙ none)) ∙ set-get_or (marks xs) a false
+
+-- neither player has marked the cell of the next move
+unmarked : (h : List ℕ) (a : ℕ) → Contains (next_of tic_tac_toe_rules h) a → (is_in (cells_of 0 h) a ≡ false) × (is_in (cells_of 1 h) a ≡ false)
+unmarked h a c = or_parts (is_in (cells_of 0 h) a) (is_in (cells_of 1 h) a) (sym (is_in-players h a) ∙ free_unmarked h a (next_free (next_player h) (free_cells h) a c))
+
+-- the last number of a play was legal
+pub last_legal : (h i : List ℕ) (a : ℕ) → IsPlay tic_tac_toe_rules h → h ≡ i ++ a ∷ [] → Contains (next_of tic_tac_toe_rules i) a
+last_legal h i a play e = IsPlay-last tic_tac_toe_rules i a (subst (IsPlay tic_tac_toe_rules) e play)
+
+-- a move of player 0 taken back, and then of player 1
+pub before_first : (s t : TicTacToeState) (h : List ℕ) (a : ℕ) → IsTicTacToeAt s → s.history ≡ h ++ a ∷ [] → length h % 2 ≡ 0 → t.history ≡ h → t.crosses ≡ set s.crosses a false → t.noughts ≡ s.noughts → IsTicTacToeAt t
+before_first s t h a at e first f x o =
+    let c = last_legal s.history h a at.play e in
+    let small : a < 9 = next_small h a c in
+    let marking : IsFirstMarking h a = (cells_of-push h a).0 first in
+    let crosses : s.crosses ≡ marks (cells_of 0 h ++ a ∷ []) = at.crosses ∙ ap (λ (i : List ℕ). marks (cells_of 0 i)) e ∙ ap marks marking.crosses in
+    let noughts : s.noughts ≡ marks (cells_of 1 h) = at.noughts ∙ ap (λ (i : List ℕ). marks (cells_of 1 i)) e ∙ ap marks marking.noughts in
+    record {
+      play = IsPlay-back tic_tac_toe_rules s.history t.history h a at.play e f;
+      crosses = x ∙ ap (λ (b : List Bool). set b a false) crosses ∙ marks-back (cells_of 0 h) a small (unmarked h a c).0 ∙ ap (λ (i : List ℕ). marks (cells_of 0 i)) (sym f);
+      noughts = o ∙ noughts ∙ ap (λ (i : List ℕ). marks (cells_of 1 i)) (sym f);
+    }
+
+pub before_second : (s t : TicTacToeState) (h : List ℕ) (a : ℕ) → IsTicTacToeAt s → s.history ≡ h ++ a ∷ [] → length h % 2 ≡ 1 → t.history ≡ h → t.crosses ≡ s.crosses → t.noughts ≡ set s.noughts a false → IsTicTacToeAt t
+before_second s t h a at e second f x o =
+    let c = last_legal s.history h a at.play e in
+    let small : a < 9 = next_small h a c in
+    let marking : IsSecondMarking h a = (cells_of-push h a).1 second in
+    let crosses : s.crosses ≡ marks (cells_of 0 h) = at.crosses ∙ ap (λ (i : List ℕ). marks (cells_of 0 i)) e ∙ ap marks marking.crosses in
+    let noughts : s.noughts ≡ marks (cells_of 1 h ++ a ∷ []) = at.noughts ∙ ap (λ (i : List ℕ). marks (cells_of 1 i)) e ∙ ap marks marking.noughts in
+    record {
+      play = IsPlay-back tic_tac_toe_rules s.history t.history h a at.play e f;
+      crosses = x ∙ crosses ∙ ap (λ (i : List ℕ). marks (cells_of 0 i)) (sym f);
+      noughts = o ∙ ap (λ (b : List Bool). set b a false) noughts ∙ marks-back (cells_of 1 h) a small (unmarked h a c).1 ∙ ap (λ (i : List ℕ). marks (cells_of 1 i)) (sym f);
     }
 
 -- a number of a play, read from another list that is the play

@@ -65,7 +65,7 @@ or_true : (b : Bool) → (b || true) ≡ true
 or_true true = refl
 or_true false = refl
 
-or_false : (b : Bool) → (b || false) ≡ b
+pub or_false : (b : Bool) → (b || false) ≡ b
 or_false true = refl
 or_false false = refl
 
@@ -99,7 +99,7 @@ pub free_small : (h : List ℕ) → All (λ a. a < 9) (free_cells h)
 free_small h = All-filter (λ cell. not (is_in h cell)) (λ a. a < 9) cells cells_small
 
 -- a free cell is not marked
-free_unmarked : (h : List ℕ) (a : ℕ) → Contains (free_cells h) a → is_in h a ≡ false
+pub free_unmarked : (h : List ℕ) (a : ℕ) → Contains (free_cells h) a → is_in h a ≡ false
 free_unmarked h a c = not-true (is_in h a) (All-contains (λ cell. not (is_in h cell) ≡ true) (free_cells h) a (filter_passes (λ cell. not (is_in h cell)) cells) c)
 
 -- each move takes a free cell

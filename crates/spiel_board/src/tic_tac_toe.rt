@@ -62,12 +62,14 @@ impl TicTacToeState {
         }
     }
 
-    /// Whether somebody has a line, or the board is full.
+    /// Whether somebody has a line, or the board is full. Only who moved last can have made a line.
     fn is_over(&self) -> bool
         requires { IsTicTacToeAt self.now }
         ensures { result ≡ is_over self.now.history }
     {
-        self.has_line(0) || self.has_line(1) || self.history.items().len() == 9
+        let count = self.history.items().len();
+        let last = 1 - (count % 2) as u32;
+        self.has_line(last) || count == 9
     }
 
     /// Who marks the next cell, if the play goes on.
@@ -225,6 +227,16 @@ impl Game for TicTacToe {
             state.noughts[action as usize] = true;
         }
         Ok(())
+    }
+
+    fn undo(&self, state: &mut TicTacToeState) {
+        if let Some(cell) = state.history.pop() {
+            if state.history.items().len() % 2 == 0 {
+                state.crosses[cell as usize] = false;
+            } else {
+                state.noughts[cell as usize] = false;
+            }
+        }
     }
 
     fn copy(&self, alloc: Global, state: &TicTacToeState) -> Result<TicTacToeState, NoMemory> {

@@ -177,11 +177,11 @@ impl LiarsDice {
         ensures { Adds result out.old out.new (listed 44 (faces_of self.now.sides dice.now)) }
     {
         let faces = self.faces(alloc, dice)?;
-        push_listed(alloc, b',', faces.items(), out)
+        push_listed(b',', faces.items(), out)
     }
 
     /// Adds the name of a call.
-    fn push_call(&self, alloc: Global, call: u32, out: &mut Text) -> Result<(), NoMemory>
+    fn push_call(&self, call: u32, out: &mut Text) -> Result<(), NoMemory>
         requires range { IsWithinRange self.now.dice self.now.sides }
         requires call { call ≤ 200 }
         ensures { Adds result out.old out.new (call_name self.now.dice self.now.sides call) }
@@ -189,19 +189,19 @@ impl LiarsDice {
         if call == self.liar() {
             return out.push(b"liar");
         }
-        write_number(alloc, call / self.sides + 1, out)?;
+        write_number(call / self.sides + 1, out)?;
         out.push(b"-")?;
-        write_number(alloc, call % self.sides + 1, out)
+        write_number(call % self.sides + 1, out)
     }
 }
 
 /// Adds the name of a roll.
-fn push_roll(alloc: Global, roll: u32, out: &mut Text) -> Result<(), NoMemory>
+fn push_roll(roll: u32, out: &mut Text) -> Result<(), NoMemory>
     requires { roll ≤ 200 }
     ensures { Adds result out.old out.new (codes "roll " ++ decimal (roll + 1)) }
 {
     out.push(b"roll ")?;
-    write_number(alloc, roll + 1, out)
+    write_number(roll + 1, out)
 }
 
 /// Adds the face of a roll as often as it was rolled.
@@ -218,34 +218,23 @@ fn add_face(roll: u32, dice: &[u32], faces: &mut List<u32>) -> Result<(), NoMemo
 }
 
 /// Adds a number behind the separator, unless it is the first.
-fn push_next(
-    alloc: Global,
-    separator: u8,
-    is_first: bool,
-    number: u32,
-    out: &mut Text,
-) -> Result<(), NoMemory>
+fn push_next(separator: u8, is_first: bool, number: u32, out: &mut Text) -> Result<(), NoMemory>
     ensures { Adds result out.old out.new (if is_first then decimal number else separator ∷ decimal number) }
 {
     if is_first {
-        write_number(alloc, number, out)
+        write_number(number, out)
     } else {
         out.push(&[separator])?;
-        write_number(alloc, number, out)
+        write_number(number, out)
     }
 }
 
 /// Adds the numbers with the separator between each two.
-fn push_listed(
-    alloc: Global,
-    separator: u8,
-    numbers: &[u32],
-    out: &mut Text,
-) -> Result<(), NoMemory>
+fn push_listed(separator: u8, numbers: &[u32], out: &mut Text) -> Result<(), NoMemory>
     ensures { Adds result out.old out.new (listed separator numbers.now) }
 {
     for (index, number) in numbers.iter().enumerate() {
-        push_next(alloc, separator, index == 0, *number, out)?;
+        push_next(separator, index == 0, *number, out)?;
     }
     Ok(())
 }
@@ -344,21 +333,21 @@ impl Game for LiarsDice {
     ) -> Result<(), NoMemory> {
         self.push_faces(alloc, self.dice_of(state, player), out)?;
         out.push(b":")?;
-        push_listed(alloc, b' ', self.calls(state), out)
+        push_listed(b' ', self.calls(state), out)
     }
 
     fn action_name(
         &self,
-        alloc: Global,
+        _alloc: Global,
         state: &LiarsDiceState,
         _player: u32,
         action: u32,
         out: &mut Text,
     ) -> Result<(), NoMemory> {
         if self.is_rolling(state) {
-            push_roll(alloc, action, out)
+            push_roll(action, out)
         } else {
-            self.push_call(alloc, action, out)
+            self.push_call(action, out)
         }
     }
 
@@ -370,6 +359,10 @@ impl Game for LiarsDice {
     ) -> Result<(), NoMemory> {
         state.history.push(action)?;
         Ok(())
+    }
+
+    fn undo(&self, state: &mut LiarsDiceState) {
+        state.history.pop();
     }
 
     fn copy(&self, alloc: Global, state: &LiarsDiceState) -> Result<LiarsDiceState, NoMemory> {

@@ -1,4 +1,4 @@
-ghost use Rattle.std.specs.Prelude.{◌≡◌, [], ◌∷◌, ◌++◌, OnOk, OnErr};
+ghost use Rattle.std.specs.Prelude.{◌≡◌, [], ◌∷◌, ◌++◌, OnOk, OnErr, MatchOption, List};
 
 use crate::memory::NoMemory;
 use std::alloc::Global;
@@ -38,6 +38,16 @@ impl<T> List<T> {
     {
         self.items.as_slice()
     }
+
+    /// Exchanges the last item for this one. Where there is none, both are as they were.
+    pub fn swap_last(&mut self, item: &mut T)
+        ensures last { (front : List T) (last : T) → self.old ≡ front ++ last ∷ [] → (self.new ≡ front ++ item.old ∷ []) × (item.new ≡ last) }
+        ensures none { self.old ≡ [] → (self.new ≡ []) × (item.new ≡ item.old) }
+    {
+        if let Some(last) = self.items.last_mut() {
+            std::mem::swap(last, item);
+        }
+    }
 }
 
 impl<T: Drop> List<T> {
@@ -49,6 +59,21 @@ impl<T: Drop> List<T> {
     {
         self.items.push(item)?;
         Ok(())
+    }
+
+    /// Takes the last item away and answers it, if there is one. Its room is kept for the next.
+    pub fn pop(&mut self) -> Option<T>
+        ensures taken { MatchOption result ((self.old ≡ []) × (self.new ≡ [])) (λ item. self.old ≡ self.new ++ item ∷ []) }
+        ensures last { (front : List T) (item : T) → self.old ≡ front ++ item ∷ [] → (self.new ≡ front) × (result ≡ Some item) }
+    {
+        self.items.pop()
+    }
+
+    /// Takes all items away, and keeps their room for the next.
+    pub fn clear(&mut self)
+        ensures { self.new ≡ [] }
+    {
+        self.items.clear();
     }
 }
 

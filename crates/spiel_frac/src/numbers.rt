@@ -9,15 +9,15 @@ ghost use Rattle.spiel_frac.specs.Numbers.{decimal_number};
 use crate::digits::{all_digits, parsed};
 use crate::memory::NoMemory;
 use crate::text::Text;
-use std::alloc::Global;
+use itoa::Buffer;
 
 /// Adds the decimal text of a number. After `NoMemory` the text is as it was.
-pub fn write_number(alloc: Global, number: u32, out: &mut Text) -> Result<(), NoMemory>
+pub fn write_number(number: u32, out: &mut Text) -> Result<(), NoMemory>
     ensures ok { OnOk result (out.new ≡ out.old ++ decimal number) }
     ensures err { OnErr result (out.new ≡ out.old) }
 {
-    let digits = number.to_string(alloc)?;
-    out.push(digits.as_bytes())
+    let mut digits = Buffer::new();
+    out.push(digits.format(number).as_bytes())
 }
 
 /// The number whose decimal text the bytes are: digits without a leading zero, or `0`. There is

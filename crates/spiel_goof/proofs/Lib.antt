@@ -3,3 +3,4 @@ pub mod Points
 pub mod Numbers
 pub mod Growth
 pub mod Texts
+pub mod Undoing

@@ -24,3 +24,7 @@ pub record IsTable (table : Table) (x : Parts) : Type 0 where
   pub deck : AreLeft table.deck (map point_of x.turns)
   pub first : IsSeat table.first 0 x.turns
   pub second : IsSeat table.second 1 x.turns
+
+-- the turns and the stage that a table shows
+abbrev pub shown : Table → Parts
+shown table = record { turns = take table.count table.turns; stage = table.stage }

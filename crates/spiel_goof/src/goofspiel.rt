@@ -1,5 +1,6 @@
 //! Goofspiel of two players (Ross 1971, "Goofspiel: the game of pure strategy").
 ghost use Rattle.std.specs.Prelude.{◌≡◌, ◌<◌, ◌↔◌, ◌++◌, ◌∷◌, ◌+◌, [], IsOk, IfOk, slice_get, flat_map, codes, Some};
+ghost use Rattle.std.specs.Bool.{MatchBool};
 ghost use Rattle.std.specs.List.{All, Contains};
 ghost use Rattle.std.specs.Fmt.{decimal};
 ghost use Rattle.spiel_frac.specs.Adding.{Adds};
@@ -107,6 +108,13 @@ impl Goofspiel {
         }
     }
 
+    /// Whether chance draws the point cards.
+    fn draws(&self) -> bool
+        ensures { MatchBool result (self.now.order ≡ PointOrder.Random) (self.now.order ≡ PointOrder.Random → ⊥) }
+    {
+        matches!(self.order, PointOrder::Random)
+    }
+
     /// What lies as a turn begins, after so many others.
     fn stage_at(&self, turn: u32) -> Stage
         ensures { result ≡ begun (slice_get (given_points self.now.order self.now.cards) turn) }
@@ -148,77 +156,59 @@ impl Goofspiel {
     }
 
     /// Adds the other's bid, or how it went where bids are hidden, and a space.
-    fn push_other(
-        &self,
-        alloc: Global,
-        own: u32,
-        other: u32,
-        out: &mut Text,
-    ) -> Result<(), NoMemory>
+    fn push_other(&self, own: u32, other: u32, out: &mut Text) -> Result<(), NoMemory>
         requires { other < 20 }
         ensures { Adds result out.old out.new (other_text self.now.hidden own other ++ codes " ") }
     {
         if self.hidden {
             out.push(outcome(own, other))
         } else {
-            push_card(alloc, other, b" ", out)
+            push_card(other, b" ", out)
         }
     }
 
     /// Adds a complete turn as the player sees it, and a space.
-    fn push_turn(
-        &self,
-        alloc: Global,
-        player: u32,
-        turn: &Turn,
-        out: &mut Text,
-    ) -> Result<(), NoMemory>
+    fn push_turn(&self, player: u32, turn: &Turn, out: &mut Text) -> Result<(), NoMemory>
         requires player { player < 2 }
         requires cards { IsTurnOf 20 turn.now }
         ensures { Adds result out.old out.new (turn_text self.now.hidden player turn.now) }
     {
         let own = turn.bid(player);
         let other = turn.bid(1 - player);
-        push_card(alloc, turn.point, b"/", out)?;
-        push_card(alloc, own, b"/", out)?;
-        self.push_other(alloc, own, other, out)
+        push_card(turn.point, b"/", out)?;
+        push_card(own, b"/", out)?;
+        self.push_other(own, other, out)
     }
 
     /// Adds complete turns as the player sees them, with a space behind each.
-    fn push_turns(
-        &self,
-        alloc: Global,
-        player: u32,
-        turns: &[Turn],
-        out: &mut Text,
-    ) -> Result<(), NoMemory>
+    fn push_turns(&self, player: u32, turns: &[Turn], out: &mut Text) -> Result<(), NoMemory>
         requires player { player < 2 }
         requires cards { All (IsTurnOf 20) turns.now }
         ensures { Adds result out.old out.new (flat_map (turn_text self.now.hidden player) turns.now) }
     {
         for turn in turns {
-            self.push_turn(alloc, player, turn, out)?;
+            self.push_turn(player, turn, out)?;
         }
         Ok(())
     }
 }
 
 /// Adds a card, and the mark behind it.
-fn push_card(alloc: Global, card: u32, mark: &[u8], out: &mut Text) -> Result<(), NoMemory>
+fn push_card(card: u32, mark: &[u8], out: &mut Text) -> Result<(), NoMemory>
     requires { card < 20 }
     ensures { Adds result out.old out.new (decimal (card + 1) ++ mark.now) }
 {
-    write_number(alloc, card + 1, out)?;
+    write_number(card + 1, out)?;
     out.push(mark)
 }
 
 /// Adds the name of a card that is drawn or bid.
-fn push_name(alloc: Global, kind: &[u8], card: u32, out: &mut Text) -> Result<(), NoMemory>
+fn push_name(kind: &[u8], card: u32, out: &mut Text) -> Result<(), NoMemory>
     requires { card < 20 }
     ensures { Adds result out.old out.new (kind.now ++ decimal (card + 1)) }
 {
     out.push(kind)?;
-    write_number(alloc, card + 1, out)
+    write_number(card + 1, out)
 }
 
 /// Whether a bid was won, lost or tied, and a space.
@@ -235,13 +225,13 @@ fn outcome(own: u32, other: u32) -> &'static [u8]
 }
 
 /// Adds the point card that lies.
-fn push_stage(alloc: Global, stage: Stage, out: &mut Text) -> Result<(), NoMemory>
+fn push_stage(stage: Stage, out: &mut Text) -> Result<(), NoMemory>
     requires { IsStageOf 20 stage }
     ensures { Adds result out.old out.new (stage_text stage) }
 {
     match stage {
         Stage::Between => Ok(()),
-        Stage::Shown { point } | Stage::Bid { point, .. } => write_number(alloc, point + 1, out),
+        Stage::Shown { point } | Stage::Bid { point, .. } => write_number(point + 1, out),
     }
 }
 
@@ -341,26 +331,26 @@ impl Game for Goofspiel {
 
     fn info(
         &self,
-        alloc: Global,
+        _alloc: Global,
         state: &GoofspielState,
         player: u32,
         out: &mut Text,
     ) -> Result<(), NoMemory> {
-        self.push_turns(alloc, player, state.table.turns(), out)?;
-        push_stage(alloc, state.table.stage, out)
+        self.push_turns(player, state.table.turns(), out)?;
+        push_stage(state.table.stage, out)
     }
 
     fn action_name(
         &self,
-        alloc: Global,
+        _alloc: Global,
         state: &GoofspielState,
         _player: u32,
         action: u32,
         out: &mut Text,
     ) -> Result<(), NoMemory> {
         match self.place(state) {
-            Place::Chance => push_name(alloc, b"point ", action, out),
-            _ => push_name(alloc, b"bid ", action, out),
+            Place::Chance => push_name(b"point ", action, out),
+            _ => push_name(b"bid ", action, out),
         }
     }
 
@@ -374,6 +364,16 @@ impl Game for Goofspiel {
         state.history.push(action)?;
         state.table = table;
         Ok(())
+    }
+
+    fn undo(&self, state: &mut GoofspielState) {
+        state.history.pop();
+        match state.table.stage {
+            Stage::Bid { point, .. } => state.table.stage = Stage::Shown { point },
+            Stage::Shown { .. } if self.draws() => state.table.stage = Stage::Between,
+            Stage::Shown { .. } => state.table.reopen(),
+            Stage::Between => state.table.reopen(),
+        }
     }
 
     fn copy(&self, alloc: Global, state: &GoofspielState) -> Result<GoofspielState, NoMemory> {

@@ -1,9 +1,11 @@
 //! The table at which goofspiel is played.
-ghost use Rattle.std.specs.Prelude.{◌≡◌, ◌<◌, ◌+◌, ◌^◌, ◌++◌, ◌∷◌, List, ℕ, [], take};
+ghost use Rattle.std.specs.Prelude.{◌≡◌, ◌<◌, ◌≤◌, ◌+◌, ◌-◌, ◌^◌, ◌++◌, ◌∷◌, List, ℕ, [], map, take};
+ghost use Rattle.std.specs.List.{All};
 ghost use Rattle.spiel_goof.specs.Cards.{AreLeft};
-ghost use Rattle.spiel_goof.specs.Goofspiel.{Parts};
+ghost use Rattle.spiel_goof.specs.declared.turns.Stage.TheVariants.{Bid};
+ghost use Rattle.spiel_goof.specs.Goofspiel.{Parts, bid_of, point_of};
 ghost use Rattle.spiel_goof.specs.GoofspielPlays.{IsTurnOf};
-ghost use Rattle.spiel_goof.specs.Table.{IsTable, seat_of};
+ghost use Rattle.spiel_goof.specs.Table.{IsTable, seat_of, shown};
 
 use crate::cards::Cards;
 use crate::turns::{Stage, Turn};
@@ -45,6 +47,43 @@ impl Seat {
             points: self.points + gain,
         }
     }
+
+    /// What the player had before a turn which gained so many points, and after these turns.
+    fn before(self, player: u32, turns: &[Turn], gain: u32) -> Seat
+        requires cards { All (IsTurnOf 20) turns.now }
+        requires points { gain ≤ self.points }
+        ensures hand { AreLeft result.hand (map (bid_of player) turns.now) }
+        ensures points { result.points ≡ self.points - gain }
+    {
+        Seat {
+            hand: hand_after(player, turns),
+            points: self.points - gain,
+        }
+    }
+}
+
+/// The point cards that were in none of these turns.
+fn deck_after(turns: &[Turn]) -> Cards
+    requires { All (IsTurnOf 20) turns.now }
+    ensures { AreLeft result (map point_of turns.now) }
+{
+    let mut deck = Cards::all();
+    for turn in turns {
+        deck = deck.without(turn.point);
+    }
+    deck
+}
+
+/// The cards that the player has bid in none of these turns.
+fn hand_after(player: u32, turns: &[Turn]) -> Cards
+    requires { All (IsTurnOf 20) turns.now }
+    ensures { AreLeft result (map (bid_of player) turns.now) }
+{
+    let mut hand = Cards::all();
+    for turn in turns {
+        hand = hand.without(turn.bid(player));
+    }
+    hand
 }
 
 impl Table {
@@ -122,5 +161,23 @@ impl Table {
             first: self.first.after(turn.first, turn.gain(0)),
             second: self.second.after(turn.second, turn.gain(1)),
         }
+    }
+
+    /// Takes the last turn back, up to the bid of player 1.
+    pub fn reopen(&mut self)
+        requires some { 0 < self.old.count }
+        requires shows { IsTable self.old (shown self.old) }
+        requires cards { All (IsTurnOf 20) (shown self.old).turns }
+        ensures { (turns : List Turn) (turn : Turn) → (shown self.old).turns ≡ turns ++ turn ∷ [] → IsTable self.new (record { turns = turns; stage = Bid turn.point turn.first }) }
+    {
+        self.count -= 1;
+        let turn = self.turns[self.count];
+        self.stage = Stage::Bid {
+            point: turn.point,
+            first: turn.first,
+        };
+        self.deck = deck_after(self.turns());
+        self.first = self.first.before(0, self.turns(), turn.gain(0));
+        self.second = self.second.before(1, self.turns(), turn.gain(1));
     }
 }

@@ -2,4 +2,5 @@ pub mod HiddenChoices
 pub mod RepeatFaults
 pub mod RepeatedRounds
 pub mod RepeatedSteps
+pub mod RepeatedUndone
 pub mod RoundsTold

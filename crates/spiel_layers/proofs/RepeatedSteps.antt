@@ -89,21 +89,26 @@ module _ {G S : Type 0} {inner : Ghosts G S} {game : Repeated G} {state : Repeat
     Stands s h = StandsFor (λ t. IsRepeatedAt inner game t) (λ t. t.history) s h
 
     -- the round goes on
-    pub stage_grows : (xs h : List ℕ) (s : S) → h ≡ state.history ++ xs → IsPlay (repeated_rules game.times (inner.rules game.stage)) (state.history ++ xs) → inner.is_at game.stage s → inner.history_of game.stage s ≡ inner.history_of game.stage state.stage ++ xs → length (inner.history_of game.stage s) < (inner.rules game.stage).players
-        → Stands (record { history = h; rounds = state.rounds; stage = s }) (state.history ++ xs)
-    stage_grows xs h s told play sound e l = subst (λ (z : List ℕ). Stands (record { history = z; rounds = state.rounds; stage = s }) (state.history ++ xs)) (sym told) (record {
-      sound = record {
-        can = at.can;
-        play = play;
-        count = at.count;
-        now = sound;
-        piece = piece_grows xs s e;
-        long = omega (arith, at.long, length-append state.history xs);
-        short = omega (arith, length_grows xs s e);
-        done = kept xs;
-      };
-      history = refl;
-    })
+    pub stage_grows : (xs : List ℕ) (new : RepeatedState S) → new.history ≡ state.history ++ xs → new.rounds ≡ state.rounds → IsPlay (repeated_rules game.times (inner.rules game.stage)) (state.history ++ xs)
+        → inner.is_at game.stage new.stage → inner.history_of game.stage new.stage ≡ inner.history_of game.stage state.stage ++ xs → length (inner.history_of game.stage new.stage) < (inner.rules game.stage).players
+        → Stands new (state.history ++ xs)
+    stage_grows xs new told same play sound e l =
+        let all = state.history ++ xs in
+        let q : Stands (record { history = all; rounds = state.rounds; stage = new.stage }) all = record {
+          sound = record {
+            can = at.can;
+            play = play;
+            count = at.count;
+            now = sound;
+            piece = piece_grows xs new.stage e;
+            long = omega (arith, at.long, length-append state.history xs);
+            short = omega (arith, length_grows xs new.stage e);
+            done = kept xs;
+          };
+          history = refl;
+        } in
+        subst (λ (z : List ℕ). Stands (record { history = z; rounds = new.rounds; stage = new.stage }) all) (sym told)
+        (subst (λ (z : List S). Stands (record { history = all; rounds = z; stage = new.stage }) all) (sym same) q)
 
     -- the round is over, and another begins
     pub round_grows : (xs h : List ℕ) (rounds : List S) (s f : S) → h ≡ state.history ++ xs → rounds ≡ state.rounds ++ s ∷ [] → IsPlay (repeated_rules game.times (inner.rules game.stage)) (state.history ++ xs) → length state.rounds < game.times

@@ -211,6 +211,10 @@ impl<G: Game> Game for Layer<G> {
         at_state!(self, state, (game, own) => game.apply(alloc, own, action))
     }
 
+    fn undo(&self, state: &mut LayerState<G>) {
+        at_state!(self, state, (game, own) => game.undo(own))
+    }
+
     fn copy(&self, alloc: Global, state: &LayerState<G>) -> Result<LayerState<G>, NoMemory> {
         Ok(match (self, state) {
             (Layer::Plain(game), LayerState::Plain(own)) => {

@@ -1,9 +1,11 @@
 //! Several rounds of a one-shot game.
-ghost use Rattle.std.specs.Prelude.{◌≡◌, MatchResult, None, Some};
+ghost use Rattle.std.specs.Prelude.{◌≡◌, ◌<◌, length, MatchResult, OnOk, OnErr, None, Some};
 ghost use Rattle.std.specs.Bool.{MatchBool};
+ghost use Rattle.std.specs.List.{Contains};
 ghost use Rattle.std.specs.Option.{MatchOption};
+ghost use Rattle.spiel_api.specs.Rules.{next_of};
 ghost use Rattle.spiel_layers.specs.Repeated.{repeated_rules, piece_of, before_piece, repeat_fault, CanRepeat, HasRepeatFault};
-ghost use Rattle.spiel_layers.specs.RepeatedState.{IsRepeatedAt};
+ghost use Rattle.spiel_layers.specs.RepeatedState.{IsRepeatedAt, IsInRound, HasGrown};
 ghost use Rattle.spiel_layers.specs.FaultTexts.{fault_text};
 
 use crate::told::push_told;
@@ -95,6 +97,42 @@ impl<G: Game> Repeated<G> {
     {
         let numbers = state.history.items();
         &numbers[..numbers.len() - self.stage.history(&state.stage).len()]
+    }
+
+    /// Adds a number to the history and to the stage's state. After `NoMemory` both are as they were.
+    fn add(
+        &self,
+        alloc: Global,
+        state: &mut RepeatedState<G::State>,
+        action: u32,
+    ) -> Result<(), NoMemory>
+        requires at { G.is_at self.now.stage state.old.stage }
+        requires legal { Contains (next_of (G.rules self.now.stage) (G.history_of self.now.stage state.old.stage)) action }
+        ensures ok { OnOk result (HasGrown ⟦<G as Game>⟧ self.now state.old action state.new) }
+        ensures err { OnErr result (state.new ≡ state.old) }
+    {
+        state.history.push(action)?;
+        match self.stage.apply(alloc, &mut state.stage, action) {
+            Ok(()) => Ok(()),
+            Err(fault) => {
+                state.history.pop();
+                Err(fault)
+            }
+        }
+    }
+
+    /// Sees to it that the round that is played is the one of the last number.
+    fn reopen(&self, state: &mut RepeatedState<G::State>)
+        requires at { IsRepeatedAt ⟦<G as Game>⟧ self.now state.old }
+        requires some { 0 < length state.old.history }
+        ensures round { IsInRound ⟦<G as Game>⟧ self.now state.new }
+        ensures history { state.new.history ≡ state.old.history }
+    {
+        if self.stage.history(&state.stage).is_empty() {
+            if let Some(round) = state.rounds.pop() {
+                state.stage = round;
+            }
+        }
     }
 }
 
@@ -209,7 +247,7 @@ impl<G: Game> Game for Repeated<G> {
         out: &mut Text,
     ) -> Result<(), NoMemory> {
         if self.is_open(state) {
-            push_told(alloc, self.past(state), out)?;
+            push_told(self.past(state), out)?;
             self.stage.info(alloc, &state.stage, player, out)
         } else {
             unreachable!()
@@ -238,22 +276,29 @@ impl<G: Game> Game for Repeated<G> {
         state: &mut RepeatedState<G::State>,
         action: u32,
     ) -> Result<(), NoMemory> {
-        // All that takes memory is done beside the state, so that a refusal leaves it as it was.
-        let mut next = self.stage.copy(alloc, &state.stage)?;
-        self.stage.apply(alloc, &mut next, action)?;
-        if self.stage.history(&next).len() < self.stage.players() as usize {
-            state.history.push(action)?;
-            state.stage = next;
-            return Ok(());
+        if self.stage.history(&state.stage).len() + 1 < self.stage.players() as usize {
+            return self.add(alloc, state, action);
         }
+        // The next round is made first, in the place that the one that ends takes then, so that a
+        // refusal can be taken back.
         let fresh = self.stage.start(alloc)?;
-        let mut history = List::new(alloc);
-        history.extend(state.history.items())?;
-        history.push(action)?;
-        state.rounds.push(next)?;
-        state.history = history;
-        state.stage = fresh;
-        Ok(())
+        state.rounds.push(fresh)?;
+        match self.add(alloc, state, action) {
+            Ok(()) => {
+                state.rounds.swap_last(&mut state.stage);
+                Ok(())
+            }
+            Err(fault) => {
+                state.rounds.pop();
+                Err(fault)
+            }
+        }
+    }
+
+    fn undo(&self, state: &mut RepeatedState<G::State>) {
+        self.reopen(state);
+        self.stage.undo(&mut state.stage);
+        state.history.pop();
     }
 
     fn copy(

@@ -134,6 +134,10 @@ impl<G: Game> Game for StartAt<G> {
         self.inner.apply(alloc, state, action)
     }
 
+    fn undo(&self, state: &mut G::State) {
+        self.inner.undo(state);
+    }
+
     fn copy(&self, alloc: Global, state: &G::State) -> Result<G::State, NoMemory> {
         self.inner.copy(alloc, state)
     }

@@ -113,6 +113,10 @@ impl Game for Any {
         self.nest.apply(alloc, &mut state.nest, action)
     }
 
+    fn undo(&self, state: &mut AnyState) {
+        self.nest.undo(&mut state.nest);
+    }
+
     fn copy(&self, alloc: Global, state: &AnyState) -> Result<AnyState, NoMemory> {
         Ok(AnyState {
             nest: self.nest.copy(alloc, &state.nest)?,

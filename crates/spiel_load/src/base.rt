@@ -158,6 +158,10 @@ impl Game for Base {
         at_state!(self, state, (game, inner) => game.apply(alloc, inner, action))
     }
 
+    fn undo(&self, state: &mut BaseState) {
+        at_state!(self, state, (game, inner) => game.undo(inner))
+    }
+
     fn copy(&self, alloc: Global, state: &BaseState) -> Result<BaseState, NoMemory> {
         Ok(match (self, state) {
             (Base::Goofspiel(game), BaseState::Goofspiel(inner)) => {

@@ -183,18 +183,22 @@ impl Game for Matrix {
 
     fn action_name(
         &self,
-        alloc: Global,
+        _alloc: Global,
         _state: &List<u32>,
         player: u32,
         action: u32,
         out: &mut Text,
     ) -> Result<(), NoMemory> {
         let name = &self.strategies(player)[action as usize];
-        push_strategy(alloc, name.bytes(), action, out)
+        push_strategy(name.bytes(), action, out)
     }
 
     fn apply(&self, _alloc: Global, state: &mut List<u32>, action: u32) -> Result<(), NoMemory> {
         state.push(action)
+    }
+
+    fn undo(&self, state: &mut List<u32>) {
+        state.pop();
     }
 
     fn copy(&self, alloc: Global, state: &List<u32>) -> Result<List<u32>, NoMemory> {

@@ -5,7 +5,6 @@ ghost use Rattle.spiel_matrix.specs.Names.{printed_byte, printed, strategy_name}
 ghost use Rattle.spiel_matrix.specs.Parts.{most_pays};
 
 use spiel_frac::{NoMemory, Text, write_number};
-use std::alloc::Global;
 
 /// A byte of printable ASCII, or a question mark in place of any other.
 fn printed_byte(byte: u8) -> u8
@@ -29,17 +28,12 @@ fn push_printed(text: &[u8], out: &mut Text) -> Result<(), NoMemory>
 }
 
 /// Adds the name of a strategy, or where it is empty the number of the strategy, counted from 1.
-pub(crate) fn push_strategy(
-    alloc: Global,
-    name: &[u8],
-    number: u32,
-    out: &mut Text,
-) -> Result<(), NoMemory>
+pub(crate) fn push_strategy(name: &[u8], number: u32, out: &mut Text) -> Result<(), NoMemory>
     requires { number < most_pays }
     ensures { Adds result out.old out.new (strategy_name name.now number) }
 {
     if name.is_empty() {
-        write_number(alloc, number + 1, out)
+        write_number(number + 1, out)
     } else {
         push_printed(name, out)
     }

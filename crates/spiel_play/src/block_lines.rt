@@ -10,41 +10,41 @@ use spiel_frac::{Frac, NoMemory, Text, write_frac, write_number, write_ratio};
 use std::alloc::Global;
 
 /// Adds a space and a number.
-fn push_spaced(alloc: Global, number: u32, out: &mut Text) -> Result<(), NoMemory>
+fn push_spaced(number: u32, out: &mut Text) -> Result<(), NoMemory>
     ensures { OnOk result (out.new ≡ out.old ++ spaced number) }
 {
     out.push(b" ")?;
-    write_number(alloc, number, out)
+    write_number(number, out)
 }
 
 /// Adds the line of the history.
-fn push_history(alloc: Global, history: &[u32], out: &mut Text) -> Result<(), NoMemory>
+fn push_history(history: &[u32], out: &mut Text) -> Result<(), NoMemory>
     ensures { OnOk result (out.new ≡ out.old ++ ended (history_line history.now)) }
 {
     out.push(b"history:")?;
     for number in history {
-        push_spaced(alloc, *number, out)?;
+        push_spaced(*number, out)?;
     }
     out.push(b"\n")
 }
 
 /// Adds the line of who is next.
-fn push_player(alloc: Global, place: Place, out: &mut Text) -> Result<(), NoMemory>
+fn push_player(place: Place, out: &mut Text) -> Result<(), NoMemory>
     ensures { OnOk result (out.new ≡ out.old ++ ended (player_line place)) }
 {
     out.push(b"player: ")?;
-    push_next(alloc, place, out)?;
+    push_next(place, out)?;
     out.push(b"\n")
 }
 
 /// Adds who is next.
-fn push_next(alloc: Global, place: Place, out: &mut Text) -> Result<(), NoMemory>
+fn push_next(place: Place, out: &mut Text) -> Result<(), NoMemory>
     ensures { OnOk result (out.new ≡ out.old ++ next_text place) }
 {
     match place {
         Place::End => out.push(b"-4"),
         Place::Chance => out.push(b"-1"),
-        Place::Move(player) => write_number(alloc, player, out),
+        Place::Move(player) => write_number(player, out),
         Place::Joint(_) => out.push(b"-2"),
     }
 }
@@ -97,7 +97,7 @@ fn push_outcome<G: Game>(
 {
     let action = game.legal_at(state, 0, index);
     out.push(b"outcome:")?;
-    push_spaced(alloc, action, out)?;
+    push_spaced(action, out)?;
     out.push(b" ")?;
     push_probability(alloc, game, state, index, total, out)?;
     out.push(b" ")?;
@@ -137,7 +137,7 @@ fn push_info<G: Game>(
     ensures { OnOk result (out.new ≡ out.old ++ ended (info_line (G.rules game.now) (G.history_of game.now state.now) player)) }
 {
     out.push(b"info ")?;
-    write_number(alloc, player, out)?;
+    write_number(player, out)?;
     out.push(b": ")?;
     game.info(alloc, state, player, out)?;
     out.push(b"\n")
@@ -159,9 +159,9 @@ fn push_action<G: Game>(
 {
     let action = game.legal_at(state, player, index);
     out.push(b"legal ")?;
-    write_number(alloc, player, out)?;
+    write_number(player, out)?;
     out.push(b":")?;
-    push_spaced(alloc, action, out)?;
+    push_spaced(action, out)?;
     out.push(b" ")?;
     game.action_name(alloc, state, player, action, out)?;
     out.push(b"\n")
@@ -319,8 +319,8 @@ fn push_block<G: Game>(
     requires outside { IsOutside ((G.rules game.now).place (G.history_of game.now state.now)) }
     ensures { OnOk result (out.new ≡ out.old ++ block_text (G.rules game.now) (G.history_of game.now state.now)) }
 {
-    push_history(alloc, game.history(state), out)?;
-    push_player(alloc, game.place(state), out)?;
+    push_history(game.history(state), out)?;
+    push_player(game.place(state), out)?;
     push_known(alloc, game, state, out)?;
     push_choices(alloc, game, state, out)?;
     push_gained(alloc, game, state, out)

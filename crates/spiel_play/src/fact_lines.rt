@@ -20,12 +20,12 @@ fn push_title(alloc: Global, text: &GameText, out: &mut Text) -> Result<(), NoMe
 }
 
 /// Adds the line of how many players there are.
-fn push_players<G: Game>(alloc: Global, game: &G, out: &mut Text) -> Result<(), NoMemory>
+fn push_players<G: Game>(game: &G, out: &mut Text) -> Result<(), NoMemory>
     requires { G.is_game game.now }
     ensures { OnOk result (out.new ≡ out.old ++ ended (players_line (G.rules game.now))) }
 {
     out.push(b"players ")?;
-    write_number(alloc, game.players(), out)?;
+    write_number(game.players(), out)?;
     out.push(b"\n")
 }
 
@@ -86,7 +86,7 @@ fn push_facts<G: Game>(
     ensures { OnOk result (out.new ≡ out.old ++ facts_text (G.rules game.now) (view text.now)) }
 {
     push_title(alloc, text, out)?;
-    push_players(alloc, game, out)?;
+    push_players(game, out)?;
     push_unit(alloc, game, out)?;
     push_cap(alloc, game, out)?;
     push_one_shot(game, out)

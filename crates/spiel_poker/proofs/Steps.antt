@@ -1,11 +1,11 @@
 -- A state of Leduc poker, one number more.
-use Rattle.std.proofs.Common.{◌≡◌, ℕ, zero, suc, ◌+◌, ◌<◌, ◌≤◌, Bool, true, false, List, [], ◌∷◌, ◌++◌, length, reverse, drop, refl, ap, sym, subst, ◌∙◌, arith, length-append}
+use Rattle.std.proofs.Common.{◌≡◌, ℕ, zero, suc, ◌+◌, ◌<◌, ◌≤◌, Bool, true, false, List, [], ◌∷◌, ◌++◌, length, take, reverse, drop, refl, ap, sym, subst, ◌∙◌, arith}
+use Rattle.std.specs.Prelude.{slice_index}
 use Rattle.std.specs.List.{Contains}
-use Rattle.std.proofs.lemmas.List.{length-drop, length-reverse}
+use Rattle.std.proofs.lemmas.List.{length-drop, length-reverse, length-take-le, take_more}
 use Rattle.spiel_api.specs.Rules.{next_at, next_of}
 use Rattle.spiel_api.specs.Plays.{IsPlay}
-use Rattle.spiel_api.specs.States.{StandsFor}
-use Rattle.spiel_api.proofs.PlayLemmas.{IsPlay-more}
+use Rattle.spiel_api.proofs.PlayLemmas.{IsPlay-take, IsPlay-last}
 use Rattle.spiel_poker.specs.declared.leduc.Round.{Round}
 use Rattle.spiel_poker.specs.declared.leduc.Round.TheVariants.{First, Second}
 use Rattle.spiel_poker.specs.declared.leduc.LeducState.{LeducState}
@@ -14,20 +14,27 @@ use Rattle.spiel_api.specs.declared.place.Place.{Place}
 use Rattle.spiel_poker.specs.Betting.{in_turn, words_owed}
 use Rattle.spiel_poker.specs.Table.{IsTable, MaySpeak, seats}
 use Rattle.spiel_poker.specs.Leduc.{Parts, leduc_rules, parts, first_opening, second_opening, opening_by, opening_of, told_by, told, place_by, leduc_legal}
-use Rattle.spiel_poker.specs.LeducState.{ShowsParts, HasCards, IsLeducAt}
+use Rattle.spiel_poker.specs.LeducState.{ShowsParts, HasCards, IsLeducAt, front}
 use Rattle.spiel_poker.specs.Histories.{parts-few, parts-card, parts-last_card, parts-more, flat_by, flat_parts}
 use Rattle.spiel_poker.specs.LeducLaws.{sound_play, highest_low}
 
--- a new state that shows the history with one number more stands for it
-pub stands : (s new : LeducState) (a : ℕ) → IsLeducAt s → Contains (next_of leduc_rules s.history) a → new.history ≡ s.history ++ a ∷ [] → ShowsParts new.round new.public new.public_at new.table (parts 2 (s.history ++ a ∷ [])) → HasCards new.round (length s.history + 1) → StandsFor IsLeducAt (λ t. t.history) new (s.history ++ a ∷ [])
-stands s new a at c e shows cards = record {
-  sound = record {
-    play = subst (IsPlay leduc_rules) (sym e) (IsPlay-more leduc_rules s.history a at.play c);
-    shows = subst (λ (h : List ℕ). ShowsParts new.round new.public new.public_at new.table (parts 2 h)) (sym e) shows;
-    cards = let longer : length s.history + 1 ≡ length new.history = omega (arith, ap length e, length-append s.history (a ∷ [])) in subst (HasCards new.round) longer cards;
-  };
-  history = e;
-}
+-- a number of the history is legal where it stands
+pub next_number : (h : List ℕ) (count a : ℕ) → IsPlay leduc_rules h → count < length h → a ≡ slice_index h count → Contains (next_of leduc_rules (take count h)) a
+next_number h count a play within e =
+    let more : take (count + 1) h ≡ take count h ++ a ∷ [] = take_more h count 0 within ∙ ap (λ b. take count h ++ b ∷ []) (sym e) in
+    IsPlay-last leduc_rules (take count h) a (subst (IsPlay leduc_rules) more (IsPlay-take leduc_rules h (count + 1) play))
+
+-- a new state that shows one number more of the history is sound so far
+pub shows_more : (s new : LeducState) (count a : ℕ) → IsPlay leduc_rules s.history → count < length s.history → a ≡ slice_index s.history count → new.history ≡ s.history → ShowsParts new.round new.public new.public_at new.table (parts 2 (take count s.history ++ a ∷ [])) → HasCards new.round (count + 1) → IsLeducAt (front (count + 1) new)
+shows_more s new count a play within e same shows cards =
+    let now : take (count + 1) new.history ≡ take (count + 1) s.history = ap (λ (h : List ℕ). take (count + 1) h) same in
+    let more : take (count + 1) s.history ≡ take count s.history ++ a ∷ [] = take_more s.history count 0 within ∙ ap (λ b. take count s.history ++ b ∷ []) (sym e) in
+    let long : count + 1 ≡ length (take (count + 1) new.history) = sym (ap length now ∙ length-take-le (count + 1) s.history (omega arith)) in
+    record {
+      play = subst (IsPlay leduc_rules) (sym now) (IsPlay-take leduc_rules s.history (count + 1) play);
+      shows = subst (λ (h : List ℕ). ShowsParts new.round new.public new.public_at new.table (parts 2 h)) (sym (now ∙ more)) shows;
+      cards = subst (HasCards new.round) long cards;
+    }
 
 -- a card of the first players
 pub shows_card : (r : Round) (card at : ℕ) (t : Table) (h : List ℕ) (a : ℕ) → length h + 1 < 2 → ShowsParts r card at t (parts 2 h) → ShowsParts r card at t (parts 2 (h ++ a ∷ []))

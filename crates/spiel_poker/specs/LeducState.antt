@@ -1,5 +1,5 @@
 -- The state that stands for a play of Leduc poker.
-use Rattle.std.specs.Prelude.{◌≡◌, ◌+◌, ◌<◌, ◌≤◌, ℕ, length}
+use Rattle.std.specs.Prelude.{◌≡◌, ◌+◌, ◌<◌, ◌≤◌, ℕ, length, take}
 use Rattle.spiel_api.specs.Plays.{IsPlay}
 use Rattle.spiel_poker.specs.declared.leduc.Round.{Round}
 use Rattle.spiel_poker.specs.declared.leduc.Round.TheVariants.{Deal, First, Second}
@@ -32,3 +32,7 @@ pub record IsLeducAt (state : LeducState) : Type 0 where
   pub play : IsPlay leduc_rules state.history
   pub shows : ShowsParts state.round state.public state.public_at state.table (parts 2 state.history)
   pub cards : HasCards state.round (length state.history)
+
+-- the state with the first numbers of its history alone
+abbrev pub front : ℕ → LeducState → LeducState
+front count state = record state { history = take count state.history }

@@ -1,5 +1,5 @@
 //! Kuhn poker of two players (Kuhn 1950, "A simplified two-person poker").
-ghost use Rattle.std.specs.Prelude.{◌≡◌, ◌<◌, ℕ, ◌↔◌, [], ◌∷◌, ◌++◌, IsOk, nat_lt, if◌then◌else◌, Some, codes};
+ghost use Rattle.std.specs.Prelude.{◌≡◌, ◌<◌, ◌-◌, ℕ, take, length, ◌↔◌, [], ◌∷◌, ◌++◌, IsOk, nat_lt, if◌then◌else◌, Some, codes};
 ghost use Rattle.spiel_poker.specs.KuhnState.{told, TakesWord};
 
 use spiel_api::{Game, Place};
@@ -90,6 +90,20 @@ fn after(stage: Stage, word: u32) -> Stage
         (Stage::PassBet, 0) => Stage::PassBetPass,
         (Stage::PassBet, _) => Stage::PassBetBet,
         _ => stage,
+    }
+}
+
+/// The stage before the last number.
+fn before(stage: Stage) -> Stage
+    ensures { (c d : ℕ) → told result c d ≡ take (length (told stage c d) - 1) (told stage c d) }
+{
+    match stage {
+        Stage::First | Stage::Second => Stage::First,
+        Stage::Open => Stage::Second,
+        Stage::Pass | Stage::Bet => Stage::Open,
+        Stage::PassPass | Stage::PassBet => Stage::Pass,
+        Stage::BetPass | Stage::BetBet => Stage::Bet,
+        Stage::PassBetPass | Stage::PassBetBet => Stage::PassBet,
     }
 }
 
@@ -241,6 +255,11 @@ impl Game for Kuhn {
             stage => state.stage = after(stage, action),
         }
         Ok(())
+    }
+
+    fn undo(&self, state: &mut KuhnState) {
+        state.history.pop();
+        state.stage = before(state.stage);
     }
 
     fn copy(&self, alloc: Global, state: &KuhnState) -> Result<KuhnState, NoMemory> {

@@ -1,5 +1,5 @@
 //! Leduc poker of two players (Southey et al. 2005, "Bayes' bluff: opponent modelling in poker").
-ghost use Rattle.std.specs.Prelude.{◌≡◌, ◌<◌, ◌↔◌, IsOk, ◌≤◌, List, ℕ, [], map, take, length, false, slice_index, ◌++◌, codes};
+ghost use Rattle.std.specs.Prelude.{◌≡◌, ◌<◌, ◌+◌, ◌↔◌, IsOk, ◌≤◌, List, ℕ, [], map, take, length, false, slice_index, ◌++◌, codes};
 ghost use Rattle.std.specs.Fmt.{decimal};
 ghost use Rattle.spiel_frac.specs.Adding.{Adds};
 ghost use Rattle.spiel_poker.specs.Betting.{word_letter};
@@ -83,8 +83,9 @@ impl Leduc {
 impl LeducState {
     ghost use Rattle.std.specs.Prelude.{reverse};
     ghost use Rattle.spiel_poker.specs.declared.leduc.Round.TheVariants.{Second};
-    ghost use Rattle.spiel_poker.specs.Leduc.{parts, round_texts};
-    ghost use Rattle.spiel_poker.specs.LeducState.{IsLeducAt};
+    ghost use Rattle.spiel_api.specs.Plays.{IsPlay};
+    ghost use Rattle.spiel_poker.specs.Leduc.{leduc_rules, parts, round_texts};
+    ghost use Rattle.spiel_poker.specs.LeducState.{IsLeducAt, front};
 
     /// The players' cards, so far as they are dealt.
     fn cards(&self) -> &[u32]
@@ -133,25 +134,66 @@ impl LeducState {
     }
 
     /// The words of both rounds, with the public card between them.
-    fn write_both(&self, alloc: Global, out: &mut Text) -> Result<(), NoMemory>
+    fn write_both(&self, out: &mut Text) -> Result<(), NoMemory>
         requires at { IsLeducAt self.now }
         requires second { self.now.round ≡ Second }
         ensures { Adds result out.old out.new (round_texts 2 (parts 2 self.now.history)) }
     {
         write_letters(self.first_words(), out)?;
         out.push(b"/")?;
-        write_card(alloc, self.public, out)?;
+        write_card(self.public, out)?;
         write_letters(self.second_words(), out)
     }
 
+    /// Goes on to one number more of the history, when the state shows as many as `count`.
+    fn show(&mut self, count: usize)
+        requires play { IsPlay leduc_rules self.old.history }
+        requires more { count < length self.old.history }
+        requires shown { IsLeducAt (front count self.old) }
+        ensures history { self.new.history ≡ self.old.history }
+        ensures shown { IsLeducAt (front (count + 1) self.new) }
+    {
+        let action = self.history.items()[count];
+        match self.round {
+            Round::Deal => {
+                if count == 1 {
+                    self.round = Round::First;
+                }
+            }
+            Round::First if self.table.owed == 0 => {
+                self.round = Round::Second;
+                self.public = action;
+                self.public_at = count;
+                self.table = second_table(self.table);
+            }
+            Round::First => self.table = self.table.after(action, FIRST_RAISE),
+            Round::Second => self.table = self.table.after(action, SECOND_RAISE),
+        }
+    }
+
+    /// Shows the history from its first number on.
+    fn show_all(&mut self)
+        requires { IsPlay leduc_rules self.old.history }
+        ensures history { self.new.history ≡ self.old.history }
+        ensures shown { IsLeducAt self.new }
+    {
+        self.round = Round::Deal;
+        self.public = 0;
+        self.public_at = 2;
+        self.table = first_table();
+        for count in 0..self.history.items().len() {
+            self.show(count);
+        }
+    }
+
     /// All words, and the public card when it is dealt.
-    fn write_rounds(&self, alloc: Global, out: &mut Text) -> Result<(), NoMemory>
+    fn write_rounds(&self, out: &mut Text) -> Result<(), NoMemory>
         requires at { IsLeducAt self.now }
         requires cards { 2 ≤ length self.now.history }
         ensures { Adds result out.old out.new (round_texts (parts 2 self.now.history).round (parts 2 self.now.history)) }
     {
         match self.round {
-            Round::Second => self.write_both(alloc, out),
+            Round::Second => self.write_both(out),
             _ => write_letters(&self.history.items()[2..], out),
         }
     }
@@ -185,10 +227,10 @@ fn second_table(table: Table) -> Table
 }
 
 /// A card and a colon.
-fn write_card(alloc: Global, card: u32, out: &mut Text) -> Result<(), NoMemory>
+fn write_card(card: u32, out: &mut Text) -> Result<(), NoMemory>
     ensures { Adds result out.old out.new (decimal card ++ codes ":") }
 {
-    write_number(alloc, card, out)?;
+    write_number(card, out)?;
     out.push(b":")
 }
 
@@ -325,18 +367,18 @@ impl Game for Leduc {
 
     fn info(
         &self,
-        alloc: Global,
+        _alloc: Global,
         state: &LeducState,
         player: u32,
         out: &mut Text,
     ) -> Result<(), NoMemory> {
-        write_card(alloc, state.history.items()[player as usize], out)?;
-        state.write_rounds(alloc, out)
+        write_card(state.history.items()[player as usize], out)?;
+        state.write_rounds(out)
     }
 
     fn action_name(
         &self,
-        alloc: Global,
+        _alloc: Global,
         state: &LeducState,
         _player: u32,
         action: u32,
@@ -345,7 +387,7 @@ impl Game for Leduc {
         match self.place(state) {
             Place::Chance => {
                 out.push(b"deal ")?;
-                write_number(alloc, action, out)
+                write_number(action, out)
             }
             _ => out.push(word_name(action)),
         }
@@ -354,22 +396,13 @@ impl Game for Leduc {
     fn apply(&self, _alloc: Global, state: &mut LeducState, action: u32) -> Result<(), NoMemory> {
         let count = state.history.items().len();
         state.history.push(action)?;
-        match state.round {
-            Round::Deal => {
-                if count == 1 {
-                    state.round = Round::First;
-                }
-            }
-            Round::First if state.table.owed == 0 => {
-                state.round = Round::Second;
-                state.public = action;
-                state.public_at = count;
-                state.table = second_table(state.table);
-            }
-            Round::First => state.table = state.table.after(action, FIRST_RAISE),
-            Round::Second => state.table = state.table.after(action, SECOND_RAISE),
-        }
+        state.show(count);
         Ok(())
+    }
+
+    fn undo(&self, state: &mut LeducState) {
+        state.history.pop();
+        state.show_all();
     }
 
     fn copy(&self, alloc: Global, state: &LeducState) -> Result<LeducState, NoMemory> {

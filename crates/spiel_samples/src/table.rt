@@ -207,6 +207,10 @@ impl Game for Table {
         state.push(action)
     }
 
+    fn undo(&self, state: &mut List<u32>) {
+        state.pop();
+    }
+
     fn copy(&self, alloc: Global, state: &List<u32>) -> Result<List<u32>, NoMemory> {
         let mut history = List::new(alloc);
         history.extend(state.items())?;

@@ -12,11 +12,11 @@ use spiel_string::{GameText, write_game};
 use std::alloc::Global;
 
 // Adds a line of each number.
-fn push_numbers(alloc: Global, numbers: &[u32], out: &mut Text) -> Result<(), NoMemory>
+fn push_numbers(numbers: &[u32], out: &mut Text) -> Result<(), NoMemory>
     ensures { OnOk result (out.new ≡ out.old ++ lines_text (map decimal numbers.now)) }
 {
     for number in numbers {
-        write_number(alloc, *number, out)?;
+        write_number(*number, out)?;
         out.push(b"\n")?;
     }
     Ok(())
@@ -30,7 +30,7 @@ fn text_of(alloc: Global, game: &[u8], history: &[u32]) -> Result<Text, NoMemory
     text.push(b"[Meta]\nVersion: 1\n[Game]\n")?;
     text.push(game)?;
     text.push(b"\n[State]\n")?;
-    push_numbers(alloc, history, &mut text)?;
+    push_numbers(history, &mut text)?;
     Ok(text)
 }
 

@@ -1,44 +1,52 @@
-use Rattle.std.proofs.Common.{◌<◌, ℕ, List, [], ◌∷◌, ◌++◌, length, sym, subst, ap, ◌∙◌, arith, rules, ◌*◌, length-drop}
-use Rattle.std.specs.List.{Contains}
+use Rattle.std.proofs.Common.{◌<◌, ◌*◌, ◌+◌, [], ◌∷◌, length, sym, subst, ap, ◌∙◌, arith, length-drop}
 use Rattle.std.proofs.lemmas.List.{length_push}
-use Rattle.spiel_api.specs.Rules.{next_of}
+use Rattle.std.proofs.lemmas.Result.{on_ok_weaker}
+use Rattle.spiel_layers.specs.RepeatedState.{HasGrown}
 use Rattle.spiel_layers.proofs.RepeatedSteps.{stage_legal, stage_grows, round_grows, repeated_more}
 use Rattle.spiel_layers.proofs.repeated.RepeatedGame.apply.Goals as goal
 
 -- the number is legal in the round
-pub apply-requires-clause-legal : goal.apply-requires-clause-legal
-apply-requires-clause-legal g c =
-    let game = c.args.self.now in
+pub add-requires-clause-legal : goal.add-requires-clause-legal
+add-requires-clause-legal g c =
     let at = c.requires.at in
-    let laws = g.met.G.Game.lawful game.stage at.can.sound in
-    subst (λ (h : List ℕ). Contains (next_of (g.G.Game.rules game.stage) h) c.args.action) (sym c.in_ok-next.ensures.history) (stage_legal at laws c.args.action c.requires.legal)
+    stage_legal at (g.met.G.Game.lawful c.args.self.now.stage at.can.sound) c.args.action c.requires.legal
 
+pub add-requires-2-clause-legal : goal.add-requires-2-clause-legal
+add-requires-2-clause-legal g c =
+    let at = c.requires.at in
+    stage_legal at (g.met.G.Game.lawful c.args.self.now.stage at.can.sound) c.args.action c.requires.legal
+
+-- the round goes on
 pub returns-then-history-players-clause-ok : goal.returns-then-history-players-clause-ok
 returns-then-history-players-clause-ok g c =
     let game = c.args.self.now in
     let at = c.requires.at in
     let a = c.args.action in
+    let new = c.add.new.state in
     let laws = g.met.G.Game.lawful game.stage at.can.sound in
-    let next = c.in_ok-apply.ensures.ok in
     let more = repeated_more at laws a c.requires.legal in
-    stage_grows at laws (a ∷ []) c.push.new.self c.apply.new.state c.in_ok-push.ensures.ok more.0 next.sound
-    (next.history ∙ ap (λ z. z ++ a ∷ []) c.in_ok-next.ensures.history)
-    (omega (arith, c.if-history-players.true, ap length c.history.ensures, c.players.ensures))
+    let short : length (g.G.Game.history_of game.stage c.args.state.now.stage) + 1 < (g.G.Game.rules game.stage).players = omega (arith, c.if-history-players.true, ap length c.history.ensures, c.players.ensures) in
+    let stands = λ (grown : HasGrown g.G.Game game c.args.state.now a new).
+    stage_grows at laws (a ∷ []) new grown.history grown.rounds more.0 grown.stage.sound grown.stage.history
+    (omega (arith, short, ap length grown.stage.history, length_push (g.G.Game.history_of game.stage c.args.state.now.stage) a)) in
+    on_ok_weaker c.add.result stands c.add.ensures.ok
 
-pub returns-clause-ok : goal.returns-clause-ok
-returns-clause-ok g c =
+-- the round is over
+pub returns-in-Ok-clause-ok : goal.returns-in-Ok-clause-ok
+returns-in-Ok-clause-ok g c =
     let game = c.args.self.now in
     let state = c.args.state.now in
     let at = c.requires.at in
     let a = c.args.action in
     let laws = g.met.G.Game.lawful game.stage at.can.sound in
-    let next = c.in_ok-apply.ensures.ok in
-    let fresh = c.in_ok-fresh.ensures in
+    let fresh = c.in_ok-fresh.fresh in
+    let grown = c.in-Ok.ensures.ok in
     let more = repeated_more at laws a c.requires.legal in
-    let told = next.history ∙ ap (λ z. z ++ a ∷ []) c.in_ok-next.ensures.history in
     let n = (g.G.Game.rules game.stage).players in
     let piece = g.G.Game.history_of game.stage state.stage in
     let short : length piece < n = omega (arith, ap length at.piece, length-drop (length state.rounds * n) state.history, at.short, at.long) in
-    round_grows at laws (a ∷ []) c.push-2.new.self c.push-3.new.self c.apply.new.state c.in_ok-fresh.fresh (c.in_ok-push-2.ensures.ok ∙ ap (λ (h : List ℕ). h ++ c.args.action ∷ []) (search rules)) (search rules) more.0 more.1 next.sound told
-    (omega (arith, c.if-history-players.false, ap length c.history.ensures, c.players.ensures, ap length told, length_push piece a))
-    fresh.sound fresh.history
+    let exchanged = c.swap_last.ensures.last state.rounds fresh (grown.rounds ∙ c.in_ok-push.ensures.ok) in
+    round_grows at laws (a ∷ []) c.add-2.new.state.history c.swap_last.new.self c.add-2.new.state.stage c.swap_last.new.item grown.history exchanged.0 more.0 more.1 grown.stage.sound grown.stage.history
+    (omega (arith, c.if-history-players.false, ap length c.history.ensures, c.players.ensures, ap length grown.stage.history, length_push piece a))
+    (subst (λ s. g.G.Game.is_at game.stage s) (sym exchanged.1) c.in_ok-fresh.ensures.sound)
+    (ap (λ s. g.G.Game.history_of game.stage s) exchanged.1 ∙ c.in_ok-fresh.ensures.history)

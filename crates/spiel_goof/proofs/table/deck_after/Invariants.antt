@@ -1,0 +1,8 @@
+use Rattle.std.proofs.Common.{map, take}
+use Rattle.spiel_goof.specs.Cards.{AreLeft}
+use Rattle.spiel_goof.specs.Goofspiel.{point_of}
+use Rattle.spiel_goof.proofs.table.deck_after.Given as goal
+
+-- the cards of the turns so far are gone
+abbrev pub invariant-loop-turn : goal.invariant-loop-turn
+invariant-loop-turn l = AreLeft l.deck (map point_of (take l.turn-index l.turns))
