@@ -37,6 +37,16 @@ texts_after {X} f keys t = by (list_any (λ x. bytes_eq (f t) (f x)) keys) (list
     by true e = rw e refl
     by false e = rw e (map_push f keys t)
 
+-- a text that was seen leaves the texts as they are
+pub text_known : (texts : List (List ℕ)) (t : List ℕ) (n : ℕ) → n < length texts → text_at texts n ≡ t → with_text texts t ≡ texts
+text_known [] t n l e = absurd (omega arith)
+text_known (x ∷ texts) t zero l e = rw ((bytes_eq-Decides t x).1 (sym e)) refl
+text_known (x ∷ texts) t (suc n) l e = by (bytes_eq t x) (text_known texts t n (omega arith) e)
+  where
+    by : (b : Bool) → with_text texts t ≡ texts → x ∷ cond b texts (with_text texts t) ≡ x ∷ texts
+    by true ih = refl
+    by false ih = ap (λ more. x ∷ more) ih
+
 -- the text stands at its number
 pub text_there : (texts : List (List ℕ)) (t : List ℕ) → text_at (with_text texts t) (place_of_text texts t) ≡ t
 text_there [] t = refl

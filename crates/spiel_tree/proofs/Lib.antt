@@ -21,6 +21,7 @@ pub mod StateNumbers
 pub mod StatePlayers
 pub mod StateReading
 pub mod Stops
+pub mod Subtrees
 pub mod TreeLaws
 pub mod TreeParts
 pub mod TreeRows

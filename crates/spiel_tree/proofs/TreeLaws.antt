@@ -57,7 +57,7 @@ leads_on r laws n long k i l legal =
       way = ap (λ (x : Row). x.way) row ∙ ap (way_from r []) child.is ∙ sym (way_behind r laws h at.play i there) ∙ ap (λ (x : Row). way_on x i) (sym at.row);
     }
 
-way_length : (r : Rules) (h xs : List ℕ) → length (way_from r h xs) ≡ length xs
+pub way_length : (r : Rules) (h xs : List ℕ) → length (way_from r h xs) ≡ length xs
 way_length r h [] = refl
 way_length r h (a ∷ xs) = ap suc (way_length r (h ++ a ∷ []) xs)
 

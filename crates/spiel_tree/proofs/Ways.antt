@@ -73,12 +73,19 @@ row_at_append : (rows more : List Row) (row : Row) → row_at (rows ++ row ∷ m
 row_at_append [] more row = refl
 row_at_append (x ∷ rows) more row = row_at_append rows more row
 
--- the row that was added before is the parent's
+-- the row that was added before stands where it was added
+pub row_there : (r : Rules) (h : List ℕ) (rows old more : List Row) (k : ℕ) → rows ≡ old ++ row_of r h ∷ more → k ≡ length old → row_at rows k ≡ row_of r h
+row_there r h rows old more k e at =
+    ap (λ (all : List Row). row_at all k) e ∙ ap (λ (n : ℕ). row_at (old ++ row_of r h ∷ more) n) at ∙ row_at_append old more (row_of r h)
+
+pub numbers_there : (r : Rules) (h : List ℕ) (rows old more : List Row) (k : ℕ) → rows ≡ old ++ row_of r h ∷ more → k ≡ length old → (row_at rows k).here.numbers ≡ next_of r h
+numbers_there r h rows old more k e at = ap (λ (row : Row). row.here.numbers) (row_there r h rows old more k e at)
+
+-- and is the parent's
 pub parent_way : (r : Rules) → IsLawful r → (h : List ℕ) → IsPlay r h → (i : ℕ) → i < length (next_of r h) → (rows old more : List Row) (k : ℕ)
     → rows ≡ old ++ row_of r h ∷ more → k ≡ length old → way_on (row_at rows k) i ≡ way_from r [] (h ++ slice_index (next_of r h) i ∷ [])
 parent_way r laws h play i l rows old more k e at =
-    ap (λ (row : Row). way_on row i) (ap (λ (all : List Row). row_at all k) e ∙ ap (λ (n : ℕ). row_at (old ++ row_of r h ∷ more) n) at ∙ row_at_append old more (row_of r h))
-    ∙ way_behind r laws h play i l
+    ap (λ (row : Row). way_on row i) (row_there r h rows old more k e at) ∙ way_behind r laws h play i l
 
 -- ---- a node is that of its place
 pub mover_below : (n : ℕ) (place : Place) → IsAmongPlayers n place → IsMoverBelow n place
@@ -95,7 +102,7 @@ shown_info (Joint p) info = refl
 
 -- ---- all histories
 -- with no number left to tell, nobody is next
-none_next : (r : Rules) → IsLawful r → (h : List ℕ) → IsPlay r h → 4096 ≤ length h → (xs : List ℕ) → next_of r h ≡ xs → xs ≡ []
+pub none_next : (r : Rules) → IsLawful r → (h : List ℕ) → IsPlay r h → 4096 ≤ length h → (xs : List ℕ) → next_of r h ≡ xs → xs ≡ []
 none_next r laws h play l [] e = refl
 none_next r laws h play l (x ∷ xs) e =
     let c : Contains (next_of r h) x = subst (λ (ys : List ℕ). Contains ys x) (sym e) (Contains-get_or (x ∷ xs) 0 0 (omega arith)) in

@@ -8,6 +8,7 @@ pub mod PerfectRecall
 pub mod Rows
 pub mod Shown
 pub mod States
+pub mod Subtrees
 pub mod Trees
 pub mod Walked
 pub mod FaultTexts

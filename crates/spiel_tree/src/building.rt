@@ -70,6 +70,7 @@ pub fn build<G: Game>(alloc: Global, game: &G, limit: u32) -> Result<Tree, TreeF
     let rows = match walk_all(alloc, game, limit) {
         Ok(rows) => rows,
         Err(Stop::TooMany) => return Err(TreeFault::TooMany),
+        Err(Stop::Long) => unreachable!(),
         Err(Stop::NoMemory) => return Err(TreeFault::NoMemory),
     };
     let Ok(starts) = starts(alloc, &rows) else {

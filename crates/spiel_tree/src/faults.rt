@@ -9,7 +9,7 @@ use crate::pasts::same_past;
 use spiel_api::Place;
 
 /// What is wrong with rows, by their places.
-#[derive(Clone, Copy, Debug, PartialEq, Eq)]
+#[derive(Clone, Copy)]
 pub(crate) enum Fault {
     /// Players move at once.
     Simultaneous {
@@ -68,7 +68,7 @@ fn fault_at_row(rows: &Rows, starts: &[u32], firsts: &[u32], row: u32) -> Option
     let flat = flat_at(rows, row);
     match flat.place {
         Place::Move(player) => {
-            let state = starts[player as usize] as usize + flat.text;
+            let state = starts[player as usize] as usize + flat.text as usize;
             against_first(rows, player, firsts[state], row)
         }
         Place::Joint(0) => Some(Fault::Simultaneous { row }),

@@ -1,4 +1,4 @@
-ghost use Rattle.std.specs.Prelude.{◌≡◌, ◌<◌, ◌≤◌, ◌^◌, [], ◌∷◌, length, replicate, OnOk, IfOk, IsTrue, ◌↔◌};
+ghost use Rattle.std.specs.Prelude.{◌≡◌, ◌<◌, ◌≤◌, ◌^◌, [], ◌∷◌, length, replicate, OnOk, IfOk, IsTrue, IsSome, ◌↔◌};
 ghost use Rattle.spiel_tree.specs.Flat.{AddsRows, IsBefore, IsBuilt, IsMoverBelow, number_with, rows_of, shown, texts_with, way_to};
 ghost use Rattle.spiel_tree.specs.Shown.{node_shown};
 
@@ -10,12 +10,12 @@ use std::alloc::Global;
 
 /// A history: its parent, the place of its last number there, and at a move the number of the
 /// mover's text among those of that player.
-#[derive(Clone, Copy, Debug)]
+#[derive(Clone, Copy)]
 pub(crate) struct FlatRow {
     pub parent: Option<u32>,
     pub step: u32,
     pub place: Place,
-    pub text: usize,
+    pub text: u32,
 }
 
 /// Rows in preorder, with their lists in columns, and the texts of each player.
@@ -26,6 +26,8 @@ pub(crate) struct Rows {
     pub weights: Packed<u64>,
     pub pays: Packed<i64>,
     pub texts: Vec<Texts>,
+    /// How many bytes of texts were made, those that were there already among them.
+    pub made: u64,
 }
 
 /// No texts yet, for each player.
@@ -39,21 +41,24 @@ fn no_texts(alloc: Global, players: u32) -> Result<Vec<Texts>, NoMemory>
     Ok(texts)
 }
 
-/// The number of a mover's text, which is added if it is new.
+/// The number of a mover's text, which is added if it is new. There is room for 2^32 texts.
 fn number_text(
     alloc: Global,
     texts: &mut Vec<Texts>,
     place: Place,
     info: &Text,
-) -> Result<usize, NoMemory>
+) -> Result<u32, NoMemory>
     requires { IsMoverBelow (length texts.old.items) place }
     ensures texts { OnOk result (texts.new.items ≡ texts_with texts.old.items place info.now) }
     ensures number { IfOk result (λ n. n ≡ number_with texts.old.items place info.now) }
 {
     match place {
         Place::Move(player) => {
-            let text = Vec::from_slice(alloc, info.bytes())?;
-            texts[player as usize].number(text)
+            let number = texts[player as usize].number(alloc, info.bytes())?;
+            match u32::try_from(number) {
+                Ok(number) => Ok(number),
+                Err(_) => Err(NoMemory),
+            }
         }
         _ => Ok(0),
     }
@@ -73,6 +78,7 @@ impl Rows {
             weights: Packed::new(alloc),
             pays: Packed::new(alloc),
             texts,
+            made: 0,
         })
     }
 
@@ -82,6 +88,16 @@ impl Rows {
         ensures { IsTrue result ↔ limit ≤ length (rows_of self.now) }
     {
         self.flat.items().len() >= limit as usize
+    }
+
+    /// Whether more bytes of texts were made than there may be, where there may be only so many.
+    pub fn is_longer(&self, most: Option<u64>) -> bool
+        ensures { IsTrue result → IsSome most }
+    {
+        match most {
+            Some(most) => self.made > most,
+            None => false,
+        }
     }
 
     /// How many rows there are.
@@ -109,6 +125,7 @@ impl Rows {
     {
         let place = node.place;
         let text = number_text(alloc, &mut self.texts, place, &node.info)?;
+        self.made = self.made.saturating_add(node.info.bytes().len() as u64);
         self.numbers.push(node.numbers.items())?;
         self.weights.push(node.weights.items())?;
         self.pays.push(node.pays.items())?;

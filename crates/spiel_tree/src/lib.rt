@@ -2,6 +2,7 @@
 #![tactic(auto)]
 
 mod building;
+mod counting;
 mod faults;
 mod flat;
 mod history;

@@ -1,16 +1,16 @@
-ghost use Rattle.std.specs.Prelude.{◌≡◌, ◌<◌, ◌∷◌, [], ◌++◌, length, slice_index, IfOk};
+ghost use Rattle.std.specs.Prelude.{◌≡◌, ◌<◌, [], length, slice_index, OnOk, IfOk};
 ghost use Rattle.spiel_api.specs.Rules.{next_of};
 ghost use Rattle.spiel_api.specs.declared.place.Place.TheVariants.{Chance, End};
-ghost use Rattle.spiel_api.specs.States.{StandsFor};
-ghost use Rattle.spiel_tree.specs.Rows.{info_at, node_of, pays_at, pays_below, weights_at};
+ghost use Rattle.spiel_tree.specs.Rows.{info_at, node_of, pays_below};
 ghost use Rattle.spiel_tree.specs.Shown.{node_shown};
 
 use spiel_api::{Game, Place};
 use spiel_frac::{List, NoMemory, Text};
 use std::alloc::Global;
 
-/// What stands at a history.
-#[derive(Debug, Drop)]
+/// What stands at a history. A walk shows one history after another in the same place, so that none
+/// of them takes memory of its own.
+#[derive(Drop)]
 pub(crate) struct Shown {
     /// Whose number is next.
     pub place: Place,
@@ -24,12 +24,26 @@ pub(crate) struct Shown {
     pub pays: List<i64>,
 }
 
+impl Shown {
+    /// Nothing is shown yet.
+    pub fn new(alloc: Global) -> Shown {
+        Shown {
+            place: Place::End,
+            info: Text::new(alloc),
+            numbers: List::new(alloc),
+            weights: List::new(alloc),
+            pays: List::new(alloc),
+        }
+    }
+}
+
 /// How many numbers are legal for whoever is next.
-pub(crate) fn next_count<G: Game>(game: &G, state: &G::State) -> u32
-    requires { G.is_at game.now state.now }
+pub(crate) fn next_count<G: Game>(game: &G, state: &G::State, place: Place) -> u32
+    requires at { G.is_at game.now state.now }
+    requires place { place ≡ (G.rules game.now).place (G.history_of game.now state.now) }
     ensures { result ≡ length (next_of (G.rules game.now) (G.history_of game.now state.now)) }
 {
-    match game.place(state) {
+    match place {
         Place::End => 0,
         Place::Chance => game.legal_count(state, 0),
         Place::Move(player) | Place::Joint(player) => game.legal_count(state, player),
@@ -37,123 +51,110 @@ pub(crate) fn next_count<G: Game>(game: &G, state: &G::State) -> u32
 }
 
 /// One of the numbers that are legal for whoever is next.
-pub(crate) fn next_at<G: Game>(game: &G, state: &G::State, index: u32) -> u32
+pub(crate) fn next_at<G: Game>(game: &G, state: &G::State, place: Place, index: u32) -> u32
     requires at { G.is_at game.now state.now }
+    requires place { place ≡ (G.rules game.now).place (G.history_of game.now state.now) }
     requires index { index < length (next_of (G.rules game.now) (G.history_of game.now state.now)) }
     ensures { result ≡ slice_index (next_of (G.rules game.now) (G.history_of game.now state.now)) index }
 {
-    match game.place(state) {
+    match place {
         Place::End => unreachable!(),
         Place::Chance => game.legal_at(state, 0, index),
         Place::Move(player) | Place::Joint(player) => game.legal_at(state, player, index),
     }
 }
 
-/// The state after the number at an index.
-pub(crate) fn child_of<G: Game>(
-    alloc: Global,
+/// Shows the numbers that are legal for whoever is next, and answers how many there are.
+fn show_numbers<G: Game>(
     game: &G,
     state: &G::State,
-    index: u32,
-) -> Result<G::State, NoMemory>
+    place: Place,
+    numbers: &mut List<u32>,
+) -> Result<u32, NoMemory>
     requires at { G.is_at game.now state.now }
-    requires index { index < length (next_of (G.rules game.now) (G.history_of game.now state.now)) }
-    ensures { IfOk result (λ child. StandsFor (G.is_at game.now) (G.history_of game.now) child
-        (G.history_of game.now state.now ++ slice_index (next_of (G.rules game.now) (G.history_of game.now state.now)) index ∷ [])) }
+    requires place { place ≡ (G.rules game.now).place (G.history_of game.now state.now) }
+    ensures numbers { OnOk result (numbers.new ≡ next_of (G.rules game.now) (G.history_of game.now state.now)) }
+    ensures count { IfOk result (λ count. count ≡ length (next_of (G.rules game.now) (G.history_of game.now state.now))) }
 {
-    let number = next_at(game, state, index);
-    let mut child = game.copy(alloc, state)?;
-    game.apply(alloc, &mut child, number)?;
-    Ok(child)
-}
-
-/// The numbers that are legal for whoever is next.
-fn next_numbers<G: Game>(alloc: Global, game: &G, state: &G::State) -> Result<List<u32>, NoMemory>
-    requires { G.is_at game.now state.now }
-    ensures { IfOk result (λ numbers. numbers ≡ next_of (G.rules game.now) (G.history_of game.now state.now)) }
-{
-    let mut numbers = List::new(alloc);
-    for index in 0..next_count(game, state) {
-        numbers.push(next_at(game, state, index))?;
+    let count = next_count(game, state, place);
+    numbers.clear();
+    for index in 0..count {
+        numbers.push(next_at(game, state, place, index))?;
     }
-    Ok(numbers)
+    Ok(count)
 }
 
-/// The text that a mover sees, or the empty text.
-fn mover_text<G: Game>(alloc: Global, game: &G, state: &G::State) -> Result<Text, NoMemory>
-    requires { G.is_at game.now state.now }
-    ensures { IfOk result (λ text. text ≡ info_at ((G.rules game.now).place (G.history_of game.now state.now)) ((G.rules game.now).info (G.history_of game.now state.now))) }
-{
-    let mut text = Text::new(alloc);
-    if let Place::Move(player) = game.place(state) {
-        game.info(alloc, state, player, &mut text)?;
-    }
-    Ok(text)
-}
-
-/// The weights of all outcomes.
-fn outcome_weights<G: Game>(
+/// Shows the text that a mover sees, or the empty text.
+fn show_text<G: Game>(
     alloc: Global,
     game: &G,
     state: &G::State,
-) -> Result<List<u64>, NoMemory>
+    place: Place,
+    text: &mut Text,
+) -> Result<(), NoMemory>
+    requires at { G.is_at game.now state.now }
+    requires place { place ≡ (G.rules game.now).place (G.history_of game.now state.now) }
+    ensures { OnOk result (text.new ≡ info_at ((G.rules game.now).place (G.history_of game.now state.now)) ((G.rules game.now).info (G.history_of game.now state.now))) }
+{
+    text.clear();
+    if let Place::Move(player) = place {
+        game.info(alloc, state, player, text)?;
+    }
+    Ok(())
+}
+
+/// Shows the weights of all outcomes.
+fn show_weights<G: Game>(
+    game: &G,
+    state: &G::State,
+    weights: &mut List<u64>,
+) -> Result<(), NoMemory>
     requires at { G.is_at game.now state.now }
     requires chance { (G.rules game.now).place (G.history_of game.now state.now) ≡ Chance }
-    ensures { IfOk result (λ weights. weights ≡ (G.rules game.now).weights (G.history_of game.now state.now)) }
+    requires empty { weights.old ≡ [] }
+    ensures { OnOk result (weights.new ≡ (G.rules game.now).weights (G.history_of game.now state.now)) }
 {
-    let mut weights = List::new(alloc);
     for index in 0..game.legal_count(state, 0) {
         weights.push(game.weight_at(state, index))?;
     }
-    Ok(weights)
+    Ok(())
 }
 
-/// The returns of all players.
-fn all_pays<G: Game>(alloc: Global, game: &G, state: &G::State) -> Result<List<i64>, NoMemory>
+/// Shows the returns of all players.
+fn show_pays<G: Game>(game: &G, state: &G::State, pays: &mut List<i64>) -> Result<(), NoMemory>
     requires at { G.is_at game.now state.now }
     requires end { (G.rules game.now).place (G.history_of game.now state.now) ≡ End }
-    ensures { IfOk result (λ pays. pays ≡ pays_below ((G.rules game.now).pay (G.history_of game.now state.now)) (G.rules game.now).players) }
+    requires empty { pays.old ≡ [] }
+    ensures { OnOk result (pays.new ≡ pays_below ((G.rules game.now).pay (G.history_of game.now state.now)) (G.rules game.now).players) }
 {
-    let mut pays = List::new(alloc);
     for player in 0..game.players() {
         pays.push(game.pay(state, player))?;
     }
-    Ok(pays)
+    Ok(())
 }
 
-/// The weights at a chance node, or none.
-fn shown_weights<G: Game>(alloc: Global, game: &G, state: &G::State) -> Result<List<u64>, NoMemory>
+/// Shows what stands at the history of a state, and answers how many numbers are legal there.
+pub(crate) fn show<G: Game>(
+    alloc: Global,
+    game: &G,
+    state: &G::State,
+    shown: &mut Shown,
+) -> Result<u32, NoMemory>
     requires { G.is_at game.now state.now }
-    ensures { IfOk result (λ weights. weights ≡ weights_at ((G.rules game.now).place (G.history_of game.now state.now)) ((G.rules game.now).weights (G.history_of game.now state.now))) }
+    ensures node { OnOk result (node_shown shown.new ≡ node_of (G.rules game.now) (G.history_of game.now state.now)) }
+    ensures count { IfOk result (λ count. count ≡ length (next_of (G.rules game.now) (G.history_of game.now state.now))) }
 {
-    match game.place(state) {
-        Place::Chance => outcome_weights(alloc, game, state),
-        _ => Ok(List::new(alloc)),
+    let place = game.place(state);
+    shown.place = place;
+    show_text(alloc, game, state, place, &mut shown.info)?;
+    let count = show_numbers(game, state, place, &mut shown.numbers)?;
+    shown.weights.clear();
+    if place == Place::Chance {
+        show_weights(game, state, &mut shown.weights)?;
     }
-}
-
-/// The returns at the end, or none.
-fn shown_pays<G: Game>(alloc: Global, game: &G, state: &G::State) -> Result<List<i64>, NoMemory>
-    requires { G.is_at game.now state.now }
-    ensures { IfOk result (λ pays. pays ≡ pays_at ((G.rules game.now).place (G.history_of game.now state.now))
-        (pays_below ((G.rules game.now).pay (G.history_of game.now state.now)) (G.rules game.now).players)) }
-{
-    match game.place(state) {
-        Place::End => all_pays(alloc, game, state),
-        _ => Ok(List::new(alloc)),
+    shown.pays.clear();
+    if place == Place::End {
+        show_pays(game, state, &mut shown.pays)?;
     }
-}
-
-/// What stands at the history of a state.
-pub(crate) fn show<G: Game>(alloc: Global, game: &G, state: &G::State) -> Result<Shown, NoMemory>
-    requires { G.is_at game.now state.now }
-    ensures { IfOk result (λ shown. node_shown shown ≡ node_of (G.rules game.now) (G.history_of game.now state.now)) }
-{
-    Ok(Shown {
-        place: game.place(state),
-        info: mover_text(alloc, game, state)?,
-        numbers: next_numbers(alloc, game, state)?,
-        weights: shown_weights(alloc, game, state)?,
-        pays: shown_pays(alloc, game, state)?,
-    })
+    Ok(count)
 }

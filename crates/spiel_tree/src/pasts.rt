@@ -9,10 +9,10 @@ use spiel_api::Place;
 
 /// A choice of a player on a way: the row where it was made, the number of what the player saw among
 /// that player's texts, and the number taken.
-#[derive(Clone, Copy, Debug)]
+#[derive(Clone, Copy)]
 pub(crate) struct Own {
     pub row: u32,
-    pub text: usize,
+    pub text: u32,
     pub number: u32,
 }
 

@@ -34,7 +34,7 @@ pub(crate) fn state_of(rows: &Rows, starts: &[u32], row: u32) -> Option<u32>
 {
     let flat = rows.flat.items()[row as usize];
     match flat.place {
-        Place::Move(player) => Some(starts[player as usize] + flat.text as u32),
+        Place::Move(player) => Some(starts[player as usize] + flat.text),
         _ => None,
     }
 }

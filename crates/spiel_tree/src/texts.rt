@@ -8,7 +8,7 @@ use std::marker::Model;
 
 /// Texts, each once, numbered from 0 in the order in which they were first seen. Contracts see
 /// the list of the texts in that order. It keeps its allocator, so that only `new` takes one.
-#[derive(Debug, Drop)]
+#[derive(Drop)]
 pub struct Texts {
     keys: IndexSet<Vec<u8>>,
 }
@@ -58,12 +58,16 @@ impl Texts {
 
     /// The number of a text, which is added behind the others if it wasn't seen. After `NoMemory`,
     /// when there is no room for it, the texts are as they were.
-    pub fn number(&mut self, text: Vec<u8>) -> Result<usize, NoMemory>
-        ensures texts { OnOk result (self.new ≡ with_text self.old text.items) }
-        ensures number { IfOk result (λ n. n ≡ place_of_text self.old text.items) }
+    pub fn number(&mut self, alloc: Global, text: &[u8]) -> Result<usize, NoMemory>
+        ensures texts { OnOk result (self.new ≡ with_text self.old text.now) }
+        ensures number { IfOk result (λ n. n ≡ place_of_text self.old text.now) }
         ensures within { IfOk result (λ n. n < length self.new) }
         ensures err { OnErr result (self.new ≡ self.old) }
     {
+        if let Some(number) = self.find(text) {
+            return Ok(number);
+        }
+        let text = Vec::from_slice(alloc, text)?;
         let (number, _) = match self.keys.insert_full(text) {
             Ok(answer) => answer,
             Err(_) => return Err(NoMemory),

@@ -31,7 +31,7 @@ told-requires-clause-named g c = rows_named (rows_of c.in-Ok.rows) c.in-Some.fau
 pub returns-in-Err-TooMany-clause-computed_err : goal.returns-in-Err-TooMany-clause-computed_err
 returns-in-Err-TooMany-clause-computed_err g c =
     let r = g.G.Game.rules c.args.game.now in
-    tree_fault-many r c.args.limit (subst (λ (stop : Stop). IsAll (Err stop) (rows r) c.args.limit) c.in-Err-TooMany.field-0-is c.in-Err-TooMany.ensures.all)
+    tree_fault-many r c.args.limit (subst (λ (stop : Stop). IsAll (Err stop) (rows r) c.args.limit None) c.in-Err-TooMany.field-0-is c.in-Err-TooMany.ensures.all)
 
 pub returns-in-None-clause-computed_ok : goal.returns-in-None-clause-computed_ok
 returns-in-None-clause-computed_ok g c =

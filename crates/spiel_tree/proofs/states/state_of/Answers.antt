@@ -24,11 +24,6 @@ bounds-starts-player c =
     let m = row_move c.args.rows.now c.args.row c.in-Move.player c.items.result.now c.requires.built c.requires.row c.items.ensures c.in-Move.is in
     omega (arith, m.low, c.requires.starts.count)
 
-pub overflow_cast-result-in-Move : goal.overflow_cast-result-in-Move
-overflow_cast-result-in-Move c =
-    let m = row_move c.args.rows.now c.args.row c.in-Move.player c.items.result.now c.requires.built c.requires.row c.items.ensures c.in-Move.is in
-    omega (arith, m.below, m.few, c.requires.fits)
-
 pub overflow_add-result : goal.overflow_add-result
 overflow_add-result c =
     let m = row_move c.args.rows.now c.args.row c.in-Move.player c.items.result.now c.requires.built c.requires.row c.items.ensures c.in-Move.is in

@@ -6,13 +6,13 @@ use Rattle.spiel_api.specs.Rules.{next_of}
 use Rattle.spiel_tree.specs.Histories.{histories_from}
 use Rattle.spiel_tree.specs.Rows.{Row, row_of, rows_from, way_from}
 use Rattle.spiel_tree.specs.Flat.{rows_of}
-use Rattle.spiel_tree.proofs.Ways.{rows-unfold, some_row, rows_within, parent_way}
+use Rattle.spiel_tree.proofs.Ways.{rows-unfold, some_row, rows_within, parent_way, numbers_there}
 use Rattle.spiel_tree.proofs.Stops.{child_stops}
 use Rattle.spiel_tree.proofs.walking.+add_rows.Goals as goal
 
 -- there is one history more at least
-pub returns-then-is_full : goal.returns-then-is_full
-returns-then-is_full g t c =
+pub returns-then-is_full-clause-all : goal.returns-then-is_full-clause-all
+returns-then-is_full-clause-all g t c =
     let laws = g.met.G.Game in
     let game = c.args.game.now in
     let state = c.args.state.now in
@@ -22,8 +22,8 @@ returns-then-is_full g t c =
     omega (arith, some, full)
 
 -- a child that passes the limit
-pub returns-in-Err-add_rows : goal.returns-in-Err-add_rows
-returns-in-Err-add_rows g t c =
+pub returns-in_err-add_rows-clause-all : goal.returns-in_err-add_rows-clause-all
+returns-in_err-add_rows-clause-all g t c =
     let laws = g.met.G.Game in
     let game = c.args.game.now in
     let state = c.args.state.now in
@@ -31,22 +31,30 @@ returns-in-Err-add_rows g t c =
     let h = g.G.Game.history_of game state in
     let lawful = laws.lawful game (laws.can_be_played game state c.requires.at) in
     let index = c.loop-index.index in
-    let within : index < length (next_of r h) = omega (arith, c.next_count-index-end.ensures, c.loop-index-test.true) in
+    let within : index < length (next_of r h) = omega (arith, c.in_ok-count.ensures.count, c.loop-index-test.true) in
     let here = rows_within r lawful h (laws.plays game state c.requires.at) (rows_of c.args.out.now) index within in
-    let before : length (rows_of c.loop-index.out) + length (rows_from r (g.G.Game.history_of game c.in-Ok.child)) ≤ length (rows_of c.args.out.now) + length (rows_from r h) =
-    rw (c.loop-index.invariant.added.rows_are, c.in-Ok.ensures.history) here in
-    child_stops c.in-Err-add_rows.stop (rows_from r h) (rows_from r (g.G.Game.history_of game c.in-Ok.child)) c.args.out.now c.loop-index.out c.add_rows.new.out c.args.limit before c.in-Err-add_rows.ensures
+    let more : List Row = map (row_of r) (flat_map (λ a. histories_from r (h ++ a ∷ [])) (take index (next_of r h))) in
+    let at : c.count-here.result ≡ length (rows_of c.args.out.now) = search rules in
+    let numbers : c.numbers_at.result.now ≡ next_of r h = c.numbers_at.ensures ∙ numbers_there r h (rows_of c.loop-index.out) (rows_of c.args.out.now) more c.count-here.result c.loop-index.invariant.added.rows_are at in
+    let play : g.G.Game.history_of game c.apply.new.state ≡ h ++ slice_index (next_of r h) index ∷ [] =
+    c.in_ok-apply.ensures.ok.history
+    ∙ ap (λ (play : List ℕ). play ++ slice_index c.numbers_at.result.now index ∷ []) c.loop-index.invariant.back.history
+    ∙ ap (λ (ns : List ℕ). h ++ slice_index ns index ∷ []) numbers in
+    let before : length (rows_of c.loop-index.out) + length (rows_from r (g.G.Game.history_of game c.apply.new.state)) ≤ length (rows_of c.args.out.now) + length (rows_from r h) =
+    rw (c.loop-index.invariant.added.rows_are, play) here in
+    let stops = child_stops c.in_err-add_rows.field-0.0 (rows_from r h) (rows_from r (g.G.Game.history_of game c.apply.new.state)) c.args.out.now c.loop-index.out c.add_rows.new.out c.args.limit c.args.long before c.in_err-add_rows.ensures.all in
+    search rules
 
 -- each number was taken
-pub returns : goal.returns
-returns g t c =
+pub returns-clause-all : goal.returns-clause-all
+returns-clause-all g t c =
     let laws = g.met.G.Game in
     let game = c.args.game.now in
     let state = c.args.state.now in
     let r = g.G.Game.rules game in
     let h = g.G.Game.history_of game state in
     let lawful = laws.lawful game (laws.can_be_played game state c.requires.at) in
-    let all : take c.loop-index.index (next_of r h) ≡ next_of r h = take_all c.loop-index.index (next_of r h) (omega (arith, c.next_count-index-end.ensures)) in
+    let all : take c.loop-index.index (next_of r h) ≡ next_of r h = take_all c.loop-index.index (next_of r h) (omega (arith, c.in_ok-count.ensures.count)) in
     let step = rows-unfold r lawful h (laws.plays game state c.requires.at) in (
       record {
         rows_are = c.loop-index.invariant.added.rows_are ∙ ap (λ (xs : List ℕ). rows_of c.args.out.now ++ map (row_of r) (h ∷ flat_map (λ a. histories_from r (h ++ a ∷ [])) xs)) all ∙ ap (λ (more : List Row). rows_of c.args.out.now ++ more) (sym step);
@@ -66,12 +74,18 @@ add_rows-requires g t c κs within =
     let h = g.G.Game.history_of game state in
     let lawful = laws.lawful game (laws.can_be_played game state c.requires.at) in
     let index = c.loop-index.index in
-    let index_low : index < length (next_of r h) = omega (arith, c.next_count-index-end.ensures, c.loop-index-test.true) in
+    let index_low : index < length (next_of r h) = omega (arith, c.in_ok-count.ensures.count, c.loop-index-test.true) in
     let more : List Row = map (row_of r) (flat_map (λ a. histories_from r (h ++ a ∷ [])) (take index (next_of r h))) in
     let added = c.loop-index.invariant.added in
     let here : c.count-here.result ≡ length (rows_of c.args.out.now) = search rules in
     let all : length (rows_of c.loop-index.out) ≡ length (rows_of c.args.out.now) + suc (length more) = ap length added.rows_are ∙ length-append (rows_of c.args.out.now) (row_of r h ∷ more) in
     let way = parent_way r lawful h (laws.plays game state c.requires.at) index index_low (rows_of c.loop-index.out) (rows_of c.args.out.now) more c.count-here.result added.rows_are here in
-    let short : length (g.G.Game.history_of game c.in-Ok.child) ≤ 4096 = lawful.limits.short (g.G.Game.history_of game c.in-Ok.child) (laws.plays game c.in-Ok.child c.in-Ok.ensures.sound) in
-    let longer : length (g.G.Game.history_of game c.in-Ok.child) ≡ length h + 1 = ap length c.in-Ok.ensures.history ∙ length-append h (slice_index (next_of r h) index ∷ []) in
-    (omega (arith, c.decreases, short, longer), (search rules, (search rules, (c.in-Ok.ensures.sound, (added.built, (added.players ∙ c.requires.players, (omega (arith, here, all), way ∙ ap (λ (h : List ℕ). way_from r [] h) (sym c.in-Ok.ensures.history))))))))
+    let numbers : c.numbers_at.result.now ≡ next_of r h = c.numbers_at.ensures ∙ numbers_there r h (rows_of c.loop-index.out) (rows_of c.args.out.now) more c.count-here.result added.rows_are here in
+    let play : g.G.Game.history_of game c.apply.new.state ≡ h ++ slice_index (next_of r h) index ∷ [] =
+    c.in_ok-apply.ensures.ok.history
+    ∙ ap (λ (play : List ℕ). play ++ slice_index c.numbers_at.result.now index ∷ []) c.loop-index.invariant.back.history
+    ∙ ap (λ (ns : List ℕ). h ++ slice_index ns index ∷ []) numbers in
+    let sound = c.in_ok-apply.ensures.ok.sound in
+    let short : length (g.G.Game.history_of game c.apply.new.state) ≤ 4096 = lawful.limits.short (g.G.Game.history_of game c.apply.new.state) (laws.plays game c.apply.new.state sound) in
+    let longer : length (g.G.Game.history_of game c.apply.new.state) ≡ length h + 1 = ap length play ∙ length-append h (slice_index (next_of r h) index ∷ []) in
+    (omega (arith, c.decreases, short, longer), (search rules, (search rules, (sound, (added.built, (added.players ∙ c.requires.players, (omega (arith, here, all), way ∙ ap (λ (h : List ℕ). way_from r [] h) (sym play))))))))

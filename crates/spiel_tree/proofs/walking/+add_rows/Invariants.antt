@@ -1,6 +1,7 @@
 use Rattle.std.proofs.Common.{◌-◌, ◌≤◌, ◌∷◌, ◌++◌, [], map, take, length}
 use Rattle.std.specs.List.{flat_map}
 use Rattle.spiel_api.specs.Rules.{next_of}
+use Rattle.spiel_api.specs.States.{StandsFor}
 use Rattle.spiel_tree.specs.Histories.{histories_from}
 use Rattle.spiel_tree.specs.Rows.{row_of}
 use Rattle.spiel_tree.specs.Flat.{AddsRows, rows_of}
@@ -10,12 +11,13 @@ use Rattle.spiel_tree.proofs.walking.+add_rows.Given as goal
 abbrev pub decreases-add_rows : goal.decreases-add_rows
 decreases-add_rows g l = 4096 - length (g.G.Game.history_of l.game.now l.state.now)
 
--- this history's row, and those of the histories behind the numbers so far
+-- this history's row, and those of the histories behind the numbers so far; the state is back
 abbrev pub invariant-loop-index : goal.invariant-loop-index
 invariant-loop-index g l =
     let rules = g.G.Game.rules l.game in
-    let h = g.G.Game.history_of l.game l.state in
+    let h = g.G.Game.history_of l.game l.fn.state in
     record {
       added : AddsRows l.fn.out l.out (map (row_of rules) (h ∷ flat_map (λ a. histories_from rules (h ++ a ∷ [])) (take l.index (next_of rules h))));
       fits : length (rows_of l.out) ≤ l.limit;
+      back : StandsFor (g.G.Game.is_at l.game) (g.G.Game.history_of l.game) l.state h;
     }

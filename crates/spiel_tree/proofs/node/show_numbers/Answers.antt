@@ -1,6 +1,6 @@
 use Rattle.std.proofs.Common.{arith}
 use Rattle.std.proofs.lemmas.Grind.{common_steps}
-use Rattle.spiel_tree.proofs.node.outcome_weights.Goals as goal
+use Rattle.spiel_tree.proofs.node.show_numbers.Goals as goal
 
 pub loop-index-preserved : goal.loop-index-preserved
 loop-index-preserved g c = grind (arith, common_steps)
