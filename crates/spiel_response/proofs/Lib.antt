@@ -4,6 +4,7 @@ pub mod BackwardInduction
 pub mod BestResponses
 pub mod Collected
 pub mod ConstantSums
+pub mod Descents
 pub mod Exchange
 pub mod Fitting
 pub mod Gains
@@ -26,7 +27,6 @@ pub mod PolicySums
 pub mod Products
 pub mod Putting
 pub mod Reached
-pub mod RowMaps
 pub mod SeenTexts
 pub mod SlotSteps
 pub mod SlotSums

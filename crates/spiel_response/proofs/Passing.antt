@@ -1,6 +1,6 @@
 -- What a pass down the rows of a tree does at one row.
-use Rattle.std.proofs.Common.{◌≡◌, ℕ, ◌*◌, ◌/◌, ◌<◌, ◌≤◌, Bool, true, false, cond, List, [], length, map, take, ap, ap₂, sym, subst, ◌∙◌, arith}
-use Rattle.std.specs.Prelude.{Option, None, slice_index}
+use Rattle.std.proofs.Common.{◌≡◌, ℕ, ◌*◌, ◌/◌, ◌<◌, ◌≤◌, Bool, true, false, cond, List, [], length, ap, ap₂, sym, subst, ◌∙◌, arith}
+use Rattle.std.specs.Prelude.{Option, None}
 use Rattle.std.specs.Int.{◌∣◌}
 use Rattle.spiel_tree.specs.Rows.{Row, Step}
 use Rattle.spiel_tree.specs.Flat.{row_at}
@@ -11,7 +11,6 @@ use Rattle.spiel_response.specs.Values.{Judged}
 use Rattle.spiel_response.specs.Weighed.{IsJudgeable}
 use Rattle.spiel_response.proofs.Products.{product_on, totals_divide, totals_positive, total_positive, weights_within}
 use Rattle.spiel_response.proofs.Reached.{reach_within, step_reach}
-use Rattle.spiel_response.proofs.RowMaps.{map_before}
 
 -- ---- the products of the totals
 -- nothing is multiplied on the way to the first row
@@ -27,14 +26,6 @@ child_totals j rows parent k e is =
     let at : IsParent j.tree.rows parent k = subst (λ (rs : List Row). IsParent rs parent k) e is in
     let whole : Step → ℕ = λ step. total_of j.tree.rows j.profile step.at in
     ap (product None whole) at.way ∙ product_on None whole (row_at j.tree.rows parent) (last_index (row_at j.tree.rows k).way)
-
--- what was multiplied is the product at the child
-pub child_product : (j : Judged) (rows : List Row) (parent k : ℕ) (products : List ℕ) (total : ℕ) → rows ≡ j.tree.rows → IsParent rows parent k → k ≤ length j.tree.rows
-    → products ≡ map (totals_to j.tree.rows j.profile None) (take k j.tree.rows) → total ≡ total_of j.tree.rows j.profile (row_at j.tree.rows parent).here
-    → slice_index products parent * total ≡ totals_to j.tree.rows j.profile None (row_at j.tree.rows k)
-child_product j rows parent k products total e is l before there =
-    ap₂ (λ (x y : ℕ). x * y) (map_before (totals_to j.tree.rows j.profile None) j.tree.rows k parent products is.before l before) there
-    ∙ sym (child_totals j rows parent k e is)
 
 -- ---- reach weights
 pub root_reach : (j : Judged) → IsJudgeable j → (left : Option ℕ) (k : ℕ) → k ≡ 0 → scale_of j.tree.rows j.profile ≡ reach j.tree.rows j.profile left (row_at j.tree.rows k)

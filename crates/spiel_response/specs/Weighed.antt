@@ -1,9 +1,10 @@
 -- What is kept while a tree is judged.
-use Rattle.std.specs.Prelude.{◌≡◌, ℕ, ◌+◌, List, map, take, sum_by, None, ℤ, nat_abs}
+use Rattle.std.specs.Prelude.{◌≡◌, ℕ, ◌+◌, ◌/◌, cond, List, map, take, sum_by, Option, None, ℤ, nat_abs}
 use Rattle.spiel_frac.specs.Multiples.{least_multiple}
+use Rattle.spiel_tree.specs.Rows.{Row}
 use Rattle.spiel_tree.specs.Trees.{IsGameTree}
 use Rattle.spiel_policy.specs.Profiles.{Fits}
-use Rattle.spiel_response.specs.Reach.{leaves, total_of, totals_to}
+use Rattle.spiel_response.specs.Reach.{is_left_out, leaves, reach, total_of, totals_to}
 use Rattle.spiel_response.specs.Values.{Judged, NumbersFit, counterfactual_at, denominator_of, expected_at, sum_over, values_below}
 
 -- a tree of a game, and a profile for it
@@ -11,17 +12,17 @@ pub record IsJudgeable (j : Judged) : Type 0 where
   pub game : IsGameTree j.tree
   pub fits : Fits j.tree j.profile
 
--- the totals are those of the histories
-pub record IsWeighed (j : Judged) (totals : List ℕ) : Type 0 where
-  pub judgeable : IsJudgeable j
-  pub totals_are : totals ≡ map (λ row. total_of j.tree.rows j.profile row.here) j.tree.rows
-
 -- what a work keeps
 pub record IsWork (j : Judged) (total : ℤ) (values : List ℤ) : Type 0 where
   pub judgeable : IsJudgeable j
   pub fit : NumbersFit j
   pub total_is : total ≡ denominator_of j
   pub values_are : values ≡ values_below j j.tree.players
+
+-- ---- what goes from a history to those behind it
+-- the reach weight over the total of the weights there, or all of it where whoever moves is left out
+abbrev pub share_of : Judged → Option ℕ → Row → ℕ
+share_of j left row = cond (is_left_out left row.here.place) (reach j.tree.rows j.profile left row) (reach j.tree.rows j.profile left row / total_of j.tree.rows j.profile row.here)
 
 -- ---- what a pass has after the histories before the one at k
 abbrev pub scale_before : Judged → ℕ → ℕ

@@ -1,11 +1,15 @@
-ghost use Rattle.std.specs.Prelude.{◌≡◌, ◌+◌, ◌<◌, ◌≤◌, length, map, slice_index_or, slice_set, pos, Some, ◌+ℤ◌, nat_abs};
+ghost use Rattle.std.specs.Prelude.{◌≡◌, ◌+◌, ◌<◌, ◌≤◌, length, slice_index_or, slice_set, pos, Some, ◌+ℤ◌, nat_abs};
 ghost use Rattle.spiel_frac.specs.Fraction.{most};
 ghost use Rattle.spiel_tree.specs.Flat.{row_at};
-ghost use Rattle.spiel_response.specs.Reach.{reach};
+ghost use Rattle.spiel_tree.specs.Subtrees.{end_of};
+ghost use Rattle.spiel_response.specs.Reach.{reach, scale_of};
 ghost use Rattle.spiel_response.specs.Values.{size_below, size_for};
-ghost use Rattle.spiel_response.specs.SlotTable.{AreCollected, AreCollectedBefore, AreParentSlots, AreParentSlotsBefore, own_slot, slot_count};
+ghost use Rattle.spiel_response.specs.Weighed.{IsJudgeable};
+ghost use Rattle.spiel_response.specs.SlotTable.{AreCollected, AreCollectedBefore, AreParentSlots, AreParentSlotsBefore, AreSlotStarts, own_slot, slot_count};
 
-use crate::factors::{is_left_out, mover_state};
+use crate::factors::{is_left_out, mover_state, weight_at};
+use crate::reach::{reach_below, share};
+use crate::slots::slot_below;
 use crate::sums::part;
 use crate::weighed::Weighed;
 use spiel_api::Place;
@@ -47,28 +51,6 @@ fn add_leaf(
     }
 }
 
-/// Adds the parts of all leaves to the sums in the slots of a player's last own steps.
-pub(crate) fn add_leaves(
-    weighed: &Weighed,
-    counterfactual: &[u128],
-    slots: &[usize],
-    player: u32,
-    sums: &mut [i128],
-)
-    requires player { player < weighed.now.tree.players }
-    requires counterfactual { counterfactual.now ≡ map (reach weighed.now.tree.rows weighed.now.profile (Some player)) weighed.now.tree.rows }
-    requires slots { slots.now ≡ map (own_slot weighed.now player) weighed.now.tree.rows }
-    requires small { size_below weighed.now player + size_for weighed.now player ≤ most }
-    requires before { AreCollected weighed.now player sums.old }
-    ensures { AreCollected weighed.now (player + 1) sums.new }
-{
-    let tree = weighed.tree;
-    for row in 0..tree.histories() {
-        let at = row as usize;
-        add_leaf(weighed, counterfactual[at], slots[at], player, row, sums);
-    }
-}
-
 /// Notes the slot before the information state of a history, if the player moves there.
 fn note_parent(weighed: &Weighed, slot: usize, player: u32, row: u32, parents: &mut [usize])
     requires player { player < weighed.now.tree.players }
@@ -83,16 +65,94 @@ fn note_parent(weighed: &Weighed, slot: usize, player: u32, row: u32, parents: &
     }
 }
 
-/// Notes the slot before each information state of a player. It is the same at all histories of the
-/// state, since the player remembers the own choices.
-pub(crate) fn note_parents(weighed: &Weighed, slots: &[usize], player: u32, parents: &mut [usize])
+/// Adds the part of each leaf that goes on from a history to the sum in the slot of the player's last
+/// own step, and notes the slot before each information state of the player there, which is the same at
+/// all histories of the state, since the player remembers the own choices. Answers where the first
+/// history stands that doesn't go on from this one.
+fn collect_from(
+    weighed: &Weighed,
+    starts: &[usize],
+    counterfactual: u128,
+    slot: usize,
+    player: u32,
+    row: u32,
+    sums: &mut [i128],
+    parents: &mut [usize],
+) -> u32
     requires player { player < weighed.now.tree.players }
-    requires slots { slots.now ≡ map (own_slot weighed.now player) weighed.now.tree.rows }
-    requires before { AreParentSlots weighed.now player parents.old }
-    ensures { AreParentSlots weighed.now (player + 1) parents.new }
+    requires within { row < length weighed.now.tree.rows }
+    requires starts { AreSlotStarts weighed.now starts.now }
+    requires scale { scale_of weighed.now.tree.rows weighed.now.profile ≤ most }
+    requires counterfactual { counterfactual ≡ reach weighed.now.tree.rows weighed.now.profile (Some player) (row_at weighed.now.tree.rows row) }
+    requires slot { slot ≡ own_slot weighed.now player (row_at weighed.now.tree.rows row) }
+    requires small { size_below weighed.now player + size_for weighed.now player ≤ most }
+    requires count { length sums.old ≡ slot_count weighed.now }
+    requires sums { AreCollectedBefore weighed.now player row sums.old }
+    requires parents { AreParentSlotsBefore weighed.now player row parents.old }
+    ensures next { result ≡ end_of weighed.now.tree.rows row }
+    ensures sums { AreCollectedBefore weighed.now player (end_of weighed.now.tree.rows row) sums.new }
+    ensures parents { AreParentSlotsBefore weighed.now player (end_of weighed.now.tree.rows row) parents.new }
 {
     let tree = weighed.tree;
-    for row in 0..tree.histories() {
-        note_parent(weighed, slots[row as usize], player, row, parents);
+    add_leaf(weighed, counterfactual, slot, player, row, sums);
+    note_parent(weighed, slot, player, row, parents);
+    let count = tree.row_count(row);
+    let mut next = row + 1;
+    if count == 0 {
+        return next;
     }
+    let certain = share(
+        weighed,
+        Some(player),
+        counterfactual,
+        weighed.total(row),
+        row,
+    );
+    for index in 0..count {
+        let weight = weight_at(tree, weighed.policy, row, index);
+        next = collect_from(
+            weighed,
+            starts,
+            reach_below(weighed, Some(player), certain, weight, row, index),
+            slot_below(weighed, starts, player, slot, row, index),
+            player,
+            next,
+            sums,
+            parents,
+        );
+    }
+    next
+}
+
+/// Adds the parts of all leaves to the sums in the slots of a player's last own steps, and notes the slot
+/// before each information state of the player.
+pub(crate) fn collect(
+    weighed: &Weighed,
+    starts: &[usize],
+    scale: u128,
+    player: u32,
+    sums: &mut [i128],
+    parents: &mut [usize],
+)
+    requires judgeable { IsJudgeable weighed.now }
+    requires player { player < weighed.now.tree.players }
+    requires starts { AreSlotStarts weighed.now starts.now }
+    requires scale { scale ≡ scale_of weighed.now.tree.rows weighed.now.profile }
+    requires fits { scale ≤ most }
+    requires small { size_below weighed.now player + size_for weighed.now player ≤ most }
+    requires sums { AreCollected weighed.now player sums.old }
+    requires parents { AreParentSlots weighed.now player parents.old }
+    ensures sums { AreCollected weighed.now (player + 1) sums.new }
+    ensures parents { AreParentSlots weighed.now (player + 1) parents.new }
+{
+    collect_from(
+        weighed,
+        starts,
+        scale,
+        player as usize,
+        player,
+        0,
+        sums,
+        parents,
+    );
 }

@@ -1,11 +1,12 @@
-ghost use Rattle.std.specs.Prelude.{◌≡◌, ◌+◌, ◌<◌, ◌≤◌, length, map, replicate, pos, Some, IfOk, OnOk};
+ghost use Rattle.std.specs.Prelude.{◌≡◌, ◌+◌, ◌<◌, ◌≤◌, replicate, pos, IfOk};
 ghost use Rattle.spiel_frac.specs.Fraction.{most};
-ghost use Rattle.spiel_response.specs.Reach.{reach};
+ghost use Rattle.spiel_response.specs.Reach.{scale_of};
 ghost use Rattle.spiel_response.specs.Values.{size_below, size_for};
+ghost use Rattle.spiel_response.specs.Weighed.{IsJudgeable};
 ghost use Rattle.spiel_response.specs.SlotTable.{AreSlotSums};
 
-use crate::collecting::{add_leaves, note_parents};
-use crate::slots::{own_slots, slot_starts};
+use crate::collecting::collect;
+use crate::slots::slot_starts;
 use crate::weighed::Weighed;
 use spiel_frac::{List, NoMemory};
 use std::alloc::Global;
@@ -57,28 +58,22 @@ pub(crate) fn nothing_gathered(alloc: Global, weighed: &Weighed) -> Result<Gathe
     })
 }
 
-/// With one player more, whose counterfactual reach weights are given.
-pub(crate) fn gather(
-    alloc: Global,
-    weighed: &Weighed,
-    counterfactual: &[u128],
-    player: u32,
-    gathered: &mut Gathered,
-) -> Result<(), NoMemory>
+/// With one player more.
+pub(crate) fn gather(weighed: &Weighed, scale: u128, player: u32, gathered: &mut Gathered)
+    requires judgeable { IsJudgeable weighed.now }
     requires player { player < weighed.now.tree.players }
-    requires counterfactual { counterfactual.now ≡ map (reach weighed.now.tree.rows weighed.now.profile (Some player)) weighed.now.tree.rows }
+    requires scale { scale ≡ scale_of weighed.now.tree.rows weighed.now.profile }
+    requires fits { scale ≤ most }
     requires small { size_below weighed.now player + size_for weighed.now player ≤ most }
     requires before { AreSlotSums weighed.now player gathered.old.starts gathered.old.sums.items gathered.old.parents.items }
-    ensures { OnOk result (AreSlotSums weighed.now (player + 1) gathered.new.starts gathered.new.sums.items gathered.new.parents.items) }
+    ensures { AreSlotSums weighed.now (player + 1) gathered.new.starts gathered.new.sums.items gathered.new.parents.items }
 {
-    let slots = own_slots(alloc, weighed, gathered.starts.items(), player)?;
-    add_leaves(
+    collect(
         weighed,
-        counterfactual,
-        slots.items(),
+        gathered.starts.items(),
+        scale,
         player,
         &mut gathered.sums,
+        &mut gathered.parents,
     );
-    note_parents(weighed, slots.items(), player, &mut gathered.parents);
-    Ok(())
 }

@@ -1,16 +1,18 @@
-ghost use Rattle.std.specs.Prelude.{◌≡◌, ◌+◌, ◌<◌, ◌≤◌, length, map, pos, Some, None, IfErr, IfNone, IfOk, IfSome, OnOk, ◌+ℤ◌, ◌*ℤ◌, nat_abs};
+ghost use Rattle.std.specs.Prelude.{◌≡◌, ◌+◌, ◌<◌, ◌≤◌, length, pos, Some, None, IfErr, IfNone, IfOk, IfSome, OnOk, OnSome, ◌+ℤ◌, ◌*ℤ◌, nat_abs};
 ghost use Rattle.spiel_frac.specs.Fraction.{most};
 ghost use Rattle.spiel_tree.specs.Flat.{row_at};
+ghost use Rattle.spiel_tree.specs.Subtrees.{end_of};
 ghost use Rattle.spiel_response.specs.Faults.{OverflowsOnlyIf};
 ghost use Rattle.spiel_response.specs.Reach.{reach, scale_of};
 ghost use Rattle.spiel_response.specs.Values.{size_below, size_for, values_below};
-ghost use Rattle.spiel_response.specs.Weighed.{size_before};
+ghost use Rattle.spiel_response.specs.Weighed.{IsJudgeable, size_before};
 ghost use Rattle.spiel_response.specs.SlotTable.{AreSlotSums};
 ghost use Rattle.spiel_response.specs.Summed.{AreSums, ArePlayerSums};
 
+use crate::factors::weight_at;
 use crate::fault::JudgeFault;
 use crate::gathering::{Gathered, gather};
-use crate::reach::all_reached;
+use crate::reach::{reach_below, share};
 use crate::scale::MOST;
 use crate::weighed::Weighed;
 use spiel_api::Place;
@@ -93,66 +95,65 @@ fn with_row(
     }
 }
 
-/// The sums of a player over all leaves, with the size of what was summed before.
-fn all_leaves(
+/// Goes from the sums over the leaves before a history to those over all before the first that doesn't
+/// go on from it, and answers where that one stands. The reach weights of the history are given.
+fn sums_from(
     weighed: &Weighed,
-    reached: &[u128],
-    counterfactual: &[u128],
+    reached: u128,
+    counterfactual: u128,
     player: u32,
+    row: u32,
     size: u128,
-) -> Option<Sums>
+    sums: &mut Sums,
+) -> Option<u32>
     requires player { player < weighed.now.tree.players }
-    requires size { size ≤ most }
-    requires reached { reached.now ≡ map (reach weighed.now.tree.rows weighed.now.profile None) weighed.now.tree.rows }
-    requires counterfactual { counterfactual.now ≡ map (reach weighed.now.tree.rows weighed.now.profile (Some player)) weighed.now.tree.rows }
-    ensures some { IfSome result (ArePlayerSums weighed.now player size) }
+    requires within { row < length weighed.now.tree.rows }
+    requires small { scale_of weighed.now.tree.rows weighed.now.profile ≤ most }
+    requires reached { reached ≡ reach weighed.now.tree.rows weighed.now.profile None (row_at weighed.now.tree.rows row) }
+    requires counterfactual { counterfactual ≡ reach weighed.now.tree.rows weighed.now.profile (Some player) (row_at weighed.now.tree.rows row) }
+    requires sums { AreSums weighed.now player row size sums.old }
+    ensures next { IfSome result (λ next. next ≡ end_of weighed.now.tree.rows row) }
+    ensures sums { OnSome result (AreSums weighed.now player (end_of weighed.now.tree.rows row) size sums.new) }
     ensures none { IfNone result (most < size + size_for weighed.now player) }
 {
     let tree = weighed.tree;
-    let mut sums = Sums { value: 0, size };
-    for row in 0..tree.histories() {
-        let at = row as usize;
-        sums = with_row(
+    *sums = with_row(weighed, *sums, reached, counterfactual, player, row, size)?;
+    let count = tree.row_count(row);
+    let mut next = row + 1;
+    if count == 0 {
+        return Some(next);
+    }
+    let total = weighed.total(row);
+    let expected = share(weighed, None, reached, total, row);
+    let certain = share(weighed, Some(player), counterfactual, total, row);
+    for index in 0..count {
+        let weight = weight_at(tree, weighed.policy, row, index);
+        next = sums_from(
             weighed,
-            sums,
-            reached[at],
-            counterfactual[at],
+            reach_below(weighed, None, expected, weight, row, index),
+            reach_below(weighed, Some(player), certain, weight, row, index),
             player,
-            row,
+            next,
             size,
+            sums,
         )?;
     }
-    Some(sums)
+    Some(next)
 }
 
-/// The sums of a player, with the size of what was summed before. What the player's response is made
-/// from is gathered on the way.
-fn player_sums(
-    alloc: Global,
-    weighed: &Weighed,
-    scale: u128,
-    reached: &[u128],
-    player: u32,
-    size: u128,
-    gathered: &mut Gathered,
-) -> Result<Sums, JudgeFault>
+/// The sums of a player over all leaves, with the size of what was summed before.
+fn player_sums(weighed: &Weighed, scale: u128, player: u32, size: u128) -> Option<Sums>
+    requires judgeable { IsJudgeable weighed.now }
     requires player { player < weighed.now.tree.players }
     requires size { size ≤ most }
-    requires before { size ≡ size_below weighed.now player }
     requires scale { scale ≡ scale_of weighed.now.tree.rows weighed.now.profile }
     requires small { scale ≤ most }
-    requires reached { reached.now ≡ map (reach weighed.now.tree.rows weighed.now.profile None) weighed.now.tree.rows }
-    requires gathered { AreSlotSums weighed.now player gathered.old.starts gathered.old.sums.items gathered.old.parents.items }
-    ensures ok { IfOk result (ArePlayerSums weighed.now player size) }
-    ensures gathered { OnOk result (AreSlotSums weighed.now (player + 1) gathered.new.starts gathered.new.sums.items gathered.new.parents.items) }
-    ensures fault { IfErr result (OverflowsOnlyIf (most < size + size_for weighed.now player)) }
+    ensures some { IfSome result (ArePlayerSums weighed.now player size) }
+    ensures none { IfNone result (most < size + size_for weighed.now player) }
 {
-    let counterfactual = all_reached(alloc, weighed, Some(player), scale)?;
-    let Some(sums) = all_leaves(weighed, reached, counterfactual.items(), player, size) else {
-        return Err(JudgeFault::Overflow);
-    };
-    gather(alloc, weighed, counterfactual.items(), player, gathered)?;
-    Ok(sums)
+    let mut sums = Sums { value: 0, size };
+    sums_from(weighed, scale, scale, player, 0, size, &mut sums)?;
+    Some(sums)
 }
 
 /// What each player gets on average. What responses are made from is gathered on the way.
@@ -171,19 +172,13 @@ pub(crate) fn values(
     ensures fault { IfErr result (OverflowsOnlyIf (most < size_below weighed.now weighed.now.tree.players)) }
 {
     let tree = weighed.tree;
-    let reached = all_reached(alloc, weighed, None, scale)?;
     let mut values = List::new(alloc);
     let mut size = 0;
     for player in 0..tree.players() {
-        let sums = player_sums(
-            alloc,
-            weighed,
-            scale,
-            reached.items(),
-            player,
-            size,
-            gathered,
-        )?;
+        let Some(sums) = player_sums(weighed, scale, player, size) else {
+            return Err(JudgeFault::Overflow);
+        };
+        gather(weighed, scale, player, gathered);
         values.push(sums.value)?;
         size = sums.size;
     }

@@ -72,19 +72,15 @@ pub fn prepare<'a>(
     ensures fits { IfOk result (λ work. NumbersFit work.judged) }
     ensures fault { IfErr result (OverflowsOnlyIf (NumbersFit (record { tree = tree.now; profile = policy.now }) → ⊥)) }
 {
-    let weighed = Weighed::new(alloc, tree, policy)?;
-    let scale = scale(alloc, &weighed)?;
+    let states = tree.states() as usize;
+    let weighed = Weighed::new(tree, policy);
+    let scale = scale(&weighed)?;
     let Some(total) = denominator(scale, tree.unit()) else {
         return Err(JudgeFault::Overflow);
     };
     let mut gathered = nothing_gathered(alloc, &weighed)?;
     let values = values(alloc, &weighed, scale, &mut gathered)?;
-    let responses = no_responses(
-        alloc,
-        tree.players() as usize,
-        tree.states() as usize,
-        gathered.sums.len(),
-    )?;
+    let responses = no_responses(alloc, tree.players() as usize, states, gathered.sums.len())?;
     Ok(Work {
         table: Table {
             tree,

@@ -46,12 +46,12 @@ leaf c = ap (λ (j : Judged). is_end (row_at j.tree.rows c.args.row).here.place)
 pub add_at-requires-clause-slot : goal.add_at-requires-clause-slot
 add_at-requires-clause-slot c =
     let j = c.args.weighed.now in
-    omega (arith, c.requires.slot, c.requires.count, own_slot_within j (subst IsJudgeable c.weighed.view_is c.weighed.invariant.judgeable) c.args.player c.args.row c.requires.player c.requires.within)
+    omega (arith, c.requires.slot, c.requires.count, own_slot_within j (subst IsJudgeable c.weighed.view_is c.weighed.invariant) c.args.player c.args.row c.requires.player c.requires.within)
 
 pub add_at-requires-clause-fits : goal.add_at-requires-clause-fits
 add_at-requires-clause-fits c =
     let j = c.args.weighed.now in
-    let ok : IsJudgeable j = subst IsJudgeable c.weighed.view_is c.weighed.invariant.judgeable in
+    let ok : IsJudgeable j = subst IsJudgeable c.weighed.view_is c.weighed.invariant in
     let fits = leaf_fits j ok c.args.player c.args.row (to_z w128 (of_z w128 c.unwrap.result)) c.args.sums.now c.requires.player c.requires.within (leaf c)
     (own_slot_within j ok c.args.player c.args.row c.requires.player c.requires.within) (value_is c) c.requires.before in
     let at = ap (λ (s : ℕ). nat_abs (slice_index_or c.args.sums.now s (pos 0) +ℤ to_z w128 (of_z w128 c.unwrap.result))) c.requires.slot in
@@ -60,7 +60,7 @@ add_at-requires-clause-fits c =
 pub returns-in-End : goal.returns-in-End
 returns-in-End c =
     let j = c.args.weighed.now in
-    let ok : IsJudgeable j = subst IsJudgeable c.weighed.view_is c.weighed.invariant.judgeable in
+    let ok : IsJudgeable j = subst IsJudgeable c.weighed.view_is c.weighed.invariant in
     let fits : FitsSigned w128 c.unwrap.result = search rules in
     let own : FitsSigned w64 c.row_pay.result = search rules in
     let there = subst (λ (r : Option ℤ). IfSome r (λ x. (x ≡ pos c.args.counterfactual *ℤ to_z w64 (of_z w64 c.row_pay.result)) × (nat_abs x ≤ most))) c.unwrap.ensures c.part.ensures.some in

@@ -12,7 +12,7 @@ use Rattle.spiel_response.proofs.collecting.note_parent.Goals as goal
 pub returns-then-is_left_out : goal.returns-then-is_left_out
 returns-then-is_left_out c =
     let j = c.args.weighed.now in
-    let ok : IsJudgeable j = subst IsJudgeable c.weighed.view_is c.weighed.invariant.judgeable in
+    let ok : IsJudgeable j = subst IsJudgeable c.weighed.view_is c.weighed.invariant in
     let rows : c.weighed.inside.tree.now.rows ≡ j.tree.rows = ap (λ (j : Judged). j.tree.rows) c.weighed.view_is in
     let mine : moves c.args.player (row_at j.tree.rows c.args.row).here.place ≡ true =
     ap (λ (rs : List Row). moves c.args.player (row_at rs c.args.row).here.place) (sym rows) ∙ sym c.is_left_out.ensures ∙ c.if-is_left_out.true in

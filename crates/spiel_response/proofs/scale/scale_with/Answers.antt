@@ -13,12 +13,12 @@ use Rattle.spiel_response.proofs.scale.scale_with.Goals as goal
 pub lcm-requires-clause-a : goal.lcm-requires-clause-a
 lcm-requires-clause-a c =
     let judged = c.args.weighed.now in
-    omega (arith, c.requires.before, scale_before_positive judged (subst IsJudgeable c.weighed.view_is c.weighed.invariant.judgeable) c.args.row)
+    omega (arith, c.requires.before, scale_before_positive judged (subst IsJudgeable c.weighed.view_is c.weighed.invariant) c.args.row)
 
 pub lcm-requires-clause-b : goal.lcm-requires-clause-b
 lcm-requires-clause-b c =
     let judged = c.args.weighed.now in
-    omega (arith, c.requires.product, totals_positive judged (subst IsJudgeable c.weighed.view_is c.weighed.invariant.judgeable) None c.args.row c.requires.within)
+    omega (arith, c.requires.product, totals_positive judged (subst IsJudgeable c.weighed.view_is c.weighed.invariant) None c.args.row c.requires.within)
 
 next : (c : goal.After-lcm) → least_common_multiple c.args.scale c.args.product ≡ scale_before c.args.weighed.now (c.args.row + 1)
 next c =

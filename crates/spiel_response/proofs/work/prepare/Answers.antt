@@ -15,7 +15,7 @@ pub invariant_of-result-2 : goal.invariant_of-result-2
 invariant_of-result-2 c =
     let j : Judged = record { tree = c.args.tree.now; profile = c.args.policy.now } in
     let fits : FitsSigned w128 c.in-Some.total = search rules in
-    let same = c.in_ok-weighed.ensures in
+    let same = c.new-weighed.ensures.judged in
     let sums = c.values.new.gathered.sums.items in
     let gathered : AreSlotSums j j.tree.players c.values.new.gathered.starts sums c.values.new.gathered.parents.items =
     subst (λ (w : Judged). AreSlotSums w w.tree.players c.values.new.gathered.starts sums c.values.new.gathered.parents.items) same c.in_ok-values.ensures.gathered in
@@ -26,7 +26,7 @@ invariant_of-result-2 c =
     (c.in_ok-scale.ensures.ok.0 ∙ ap (λ (w : Judged). scale_of w.tree.rows w.profile) same) (to_z-of_z w64 c.unit.result whole ∙ c.unit.ensures) in
     record {
       work = record {
-        judgeable = subst IsJudgeable (c.weighed.view_is ∙ same) c.weighed.invariant.judgeable;
+        judgeable = subst IsJudgeable same c.new-weighed.ensures.judgeable;
         fit = record {
           denominator = subst (λ (z : ℤ). 2 * nat_abs z ≤ most) total c.in-Some.ensures.some.1;
           sizes = subst (λ (w : Judged). size_below w w.tree.players ≤ most) same c.in_ok-values.ensures.sizes;
@@ -37,7 +37,7 @@ invariant_of-result-2 c =
       answered = nothing_answered j c.in_ok-responses.responses.made.items c.in_ok-responses.responses.earned.items c.in_ok-responses.responses.answers.items c.in_ok-responses.responses.sums.items
           (c.in_ok-responses.ensures.made ∙ ap (λ (n : ℕ). replicate n false) c.players.ensures)
           (c.in_ok-responses.ensures.earned ∙ c.players.ensures)
-          (record { sums_count = c.in_ok-responses.ensures.sums ∙ long ∙ gathered.sums_are.count; answers_count = c.in_ok-responses.ensures.answers ∙ c.states.ensures.count });
+          (record { sums_count = c.in_ok-responses.ensures.sums ∙ long ∙ gathered.sums_are.count; answers_count = c.in_ok-responses.ensures.answers ∙ c.states-states.ensures.count });
     }
 
 pub returns-clause-judged : goal.returns-clause-judged
