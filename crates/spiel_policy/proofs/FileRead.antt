@@ -160,7 +160,7 @@ entry_shallow tree profile s =
     let pairs = depth_of_items 1 (pairs_data (sum (weights_of profile s)) (numbers_of tree.players tree.rows s) (weights_of profile s)) (pairs_shallow (sum (weights_of profile s)) (numbers_of tree.players tree.rows s) (weights_of profile s)) in
     omega (arith, pairs)
 
-all_entries : (P : Data → Type 0) (f : ℕ → Data) (s left n : ℕ) → ((t : ℕ) → t < n → P (f t)) → s + left ≤ n → All P (map f (range_with_len s left))
+pub all_entries : (P : Data → Type 0) (f : ℕ → Data) (s left n : ℕ) → ((t : ℕ) → t < n → P (f t)) → s + left ≤ n → All P (map f (range_with_len s left))
 all_entries P f s zero n all l = All-nil P
 all_entries P f s (suc left) n all l = All-cons P (f s) (map f (range_with_len (s + 1) left)) (all s (omega (arith, l))) (all_entries P f (s + 1) left n all (omega (arith, l)))
 

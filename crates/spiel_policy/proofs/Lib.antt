@@ -1,5 +1,7 @@
 pub mod Choices
 pub mod FileRead
+pub mod FileText
+pub mod Fronts
 pub mod GivenWeights
 pub mod InfoStates
 pub mod JsonBytes

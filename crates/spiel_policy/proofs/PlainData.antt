@@ -1,6 +1,6 @@
 -- JSON values without signs, points and exponents: their texts, and a line feed behind one.
-use Rattle.std.proofs.Common.{◌≡◌, ℕ, ◌<◌, ◌≤◌, ◌^◌, Bool, true, false, ◌||◌, List, [], ◌∷◌, ◌++◌, refl, sym, ap, ap₂, ◌∙◌, arith, append_assoc, append-nil}
-use Rattle.std.specs.Prelude.{⊤, All, Some, decimal, option_and_then}
+use Rattle.std.proofs.Common.{◌≡◌, ℕ, ◌<◌, ◌≤◌, ◌^◌, Bool, true, false, List, [], ◌∷◌, ◌++◌, refl, sym, ap, ap₂, ◌∙◌, arith, append_assoc, append-nil}
+use Rattle.std.specs.Prelude.{⊤, All, decimal, option_and_then}
 use Rattle.std.proofs.lemmas.List.Elements.{All-head, All-tail}
 use Rattle.json.specs.Lex.{Lexeme, token, comma, colon, string_token, lex, between, punctuate, fresh}
 use Rattle.json.specs.Print.{escape, quoted}
@@ -13,7 +13,7 @@ use Rattle.json.proofs.Printed.Strings.{content-escape, lex-escape}
 use Rattle.serde_json.specs.Data.{Num, unsigned, negative, float, Data, null, boolean, number, string, array, object, Items, no_items, item, Members, no_members, member, depth, items_depth}
 use Rattle.serde_json.specs.Read.{max_depth, of_json, read}
 use Rattle.serde_json.specs.View.{items_of}
-use Rattle.serde_json.specs.Written.{compact_text, has_float, items_have_float, items_text, members_have_float, members_text}
+use Rattle.serde_json.specs.Written.{compact_text, items_text, members_text}
 
 abbrev IsPlainNumber : Num → Type 0
 IsPlainNumber (unsigned n) = n < 2 ^ 64
@@ -36,29 +36,6 @@ abbrev mutual
   pub MembersArePlain : Members → Type 0
   MembersArePlain no_members = ⊤
   MembersArePlain (member k d ms) = IsPlain d × MembersArePlain ms
-
--- ---- no floats
-either_false : (a b : Bool) → a ≡ false → b ≡ false → (a || b) ≡ false
-either_false a b e f = ap₂ (λ (x y : Bool). x || y) e f
-
-mutual
-  pub no_float : (d : Data) → IsPlain d → has_float d ≡ false
-  no_float null h = absurd h
-  no_float (boolean b) h = absurd h
-  no_float (number (unsigned n)) h = refl
-  no_float (number (negative z)) h = absurd h
-  no_float (number (float x)) h = absurd h
-  no_float (string s) h = refl
-  no_float (array ds) h = no_floats ds h
-  no_float (object ms) h = no_member_floats ms h
-
-  no_floats : (ds : Items) → ArePlain ds → items_have_float ds ≡ false
-  no_floats no_items h = refl
-  no_floats (item d ds) h = either_false (has_float d) (items_have_float ds) (no_float d h.0) (no_floats ds h.1)
-
-  no_member_floats : (ms : Members) → MembersArePlain ms → members_have_float ms ≡ false
-  no_member_floats no_members h = refl
-  no_member_floats (member k d ms) h = either_false (has_float d) (members_have_float ms) (no_float d h.0) (no_member_floats ms h.1)
 
 -- ---- lists of values
 pub plain_items : (ds : List Data) → All IsPlain ds → ArePlain (items_of ds)
@@ -141,15 +118,3 @@ pub read_line : (d : Data) → IsPlain d → read (compact_text d ++ 10 ∷ []) 
 read_line d plain =
     ap (λ (ts : List Lexeme). option_and_then of_json (option_and_then (λ p. json.if_last p.0 p.1) (json.value max_depth (punctuate fresh ts))))
     (same_value d (10 ∷ []) [] plain refl refl line_feed ∙ ap (lex between) (append-nil (compact_text d)))
-
--- what was written with a line feed behind it, from what the writer tells
-pub written_line : (d value : Data) (bytes new : List ℕ) → value ≡ d → IsPlain d → (has_float value ≡ false → bytes ≡ compact_text value) → new ≡ bytes ++ 10 ∷ [] → new ≡ compact_text d ++ 10 ∷ []
-written_line d value bytes new is plain text more =
-    more ∙ ap (λ (l : List ℕ). l ++ 10 ∷ []) (text (ap has_float is ∙ no_float d plain) ∙ ap compact_text is)
-
-pub line_read : (d value : Data) (bytes : List ℕ) → value ≡ d → IsPlain d → depth d ≤ max_depth → (has_float value ≡ false → bytes ≡ compact_text value) → (depth value ≤ max_depth → read bytes ≡ Some value)
-    → read (compact_text d ++ 10 ∷ []) ≡ Some d
-line_read d value bytes is plain shallow text back =
-    let same : bytes ≡ compact_text d = text (ap has_float is ∙ no_float d plain) ∙ ap compact_text is in
-    let deep : depth value ≡ depth d = ap depth is in
-    read_line d plain ∙ ap read (sym same) ∙ back (omega (arith, deep, shallow)) ∙ ap Some is

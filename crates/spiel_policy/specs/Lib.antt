@@ -1,4 +1,5 @@
 pub mod Entries
+pub mod Fronts
 pub mod Given
 pub mod Heads
 pub mod Kept

@@ -3,7 +3,9 @@ use Rattle.std.specs.Prelude.{ℕ, ◌^◌, ◌<◌, List, [], ◌∷◌, ◌++�
 use Rattle.std.specs.List.{range_with_len}
 use Rattle.serde_json.specs.Data.{Data, number, unsigned, string, array, object, no_items, item, no_members, member}
 use Rattle.serde_json.specs.View.{items_of}
-use Rattle.serde_json.specs.Written.{compact_text}
+use Rattle.json.specs.Token.{Token}
+use Rattle.json.specs.Tree.{json_tokens}
+use Rattle.serde_json.specs.Written.{compact_text, outline}
 use Rattle.spiel_frac.specs.Fraction.{ratio_text}
 use Rattle.spiel_tree.specs.States.{InfoState, numbers_of, state_at, states_below}
 use Rattle.spiel_tree.specs.Trees.{Whole}
@@ -48,3 +50,11 @@ policy_text tree profile = compact_text (file_data tree profile) ++ 10 ∷ []
 -- no total has more than 18 digits, and so no weight has
 abbrev pub HasShortWeights : Profile → Type 0
 HasShortWeights profile = All (λ weights. sum weights < 10 ^ 18) profile
+
+-- the tokens of a value, and those of values one after another
+abbrev pub data_tokens : Data → List Token
+data_tokens d = json_tokens (outline d)
+
+abbrev pub pairs_tokens : List Data → List Token
+pairs_tokens [] = []
+pairs_tokens (d ∷ ds) = data_tokens d ++ pairs_tokens ds

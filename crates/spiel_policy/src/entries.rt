@@ -1,20 +1,21 @@
 ghost use Rattle.std.specs.Prelude.{◌≡◌, Some, None, IfOk, IfSome, All, option_map};
 ghost use Rattle.serde_json.specs.View.{items_view, view};
-ghost use Rattle.spiel_policy.specs.Entries.{IsFair, entry_of, has_members, pair_of, pairs_in, pairs_of, player_of, small_of, text_of, text_weight, weight_of};
+ghost use Rattle.spiel_frac.specs.Reading.{frac_of};
+ghost use Rattle.spiel_policy.specs.Entries.{IsFair, entry_of, has_members, not_negative, pair_of, pairs_in, pairs_of, player_of, small_of, text_of, text_weight, weight_of};
 
 use serde_json::Value;
 use spiel_frac::{Frac, List, NoMemory, Text, read_frac};
 use std::alloc::Global;
 
 /// A pair of an entry: a number of the mover, and its weight.
-#[derive(Clone, Copy, Debug)]
+#[derive(Clone, Copy)]
 pub(crate) struct Pair {
     pub(crate) number: u32,
     pub(crate) weight: Frac,
 }
 
 /// An entry of a policy file: whose information state it is for, and the numbers that it names.
-#[derive(Debug, Drop)]
+#[derive(Drop)]
 pub(crate) struct Entry {
     pub(crate) player: u32,
     pub(crate) text: Text,
@@ -44,12 +45,20 @@ fn small_of(value: &Value) -> Option<u32>
 }
 
 /// The fraction that a text reads as, if it isn't negative.
+pub(crate) fn not_negative(text: &[u8]) -> Option<Frac>
+    ensures value { result ≡ not_negative (frac_of text.now) }
+    ensures fair { IfSome result IsFair }
+{
+    let weight = read_frac(text).ok()?;
+    if weight.num() < 0 { None } else { Some(weight) }
+}
+
+/// The fraction that a value's text reads as, if it isn't negative.
 fn text_weight(value: &Value) -> Option<Frac>
     ensures value { result ≡ text_weight (view value.now) }
     ensures fair { IfSome result IsFair }
 {
-    let weight = read_frac(value.as_str()?.as_bytes()).ok()?;
-    if weight.num() < 0 { None } else { Some(weight) }
+    not_negative(value.as_str()?.as_bytes())
 }
 
 /// A weight: a whole number, or a text that reads as a number that isn't negative.

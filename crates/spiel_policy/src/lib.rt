@@ -1,7 +1,9 @@
 //! Profiles: how likely each choice is at each information state of a tree, exactly.
 #![tactic(auto)]
 
+mod adding;
 mod entries;
+mod entrywise;
 mod fault;
 mod given;
 mod heads;
@@ -9,6 +11,7 @@ mod made;
 mod policy;
 mod reading;
 mod tables;
+mod tokens;
 mod weighing;
 mod writing;
 

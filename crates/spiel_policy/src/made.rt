@@ -1,4 +1,4 @@
-ghost use Rattle.std.specs.Prelude.{◌≡◌, ◌≤◌, ◌<◌, IfOk};
+ghost use Rattle.std.specs.Prelude.{◌≡◌, ◌≤◌, ◌<◌, IfOk, OnOk};
 ghost use Rattle.spiel_policy.specs.Profiles.{Fits, first_profile, uniform_profile};
 ghost use Rattle.spiel_policy.specs.Kept.{first_and, profile_with};
 
@@ -7,18 +7,18 @@ use spiel_frac::{List, NoMemory, Packed};
 use spiel_tree::Tree;
 use std::alloc::Global;
 
-/// The weight 1 for the first number, and `other` for each of the rest.
+/// Makes the weights those of so many numbers: 1 for the first, and `other` for each of the rest.
 #[tactic(auto, using(crate::proofs::Profiles::first_and_more))]
-fn first_and(alloc: Global, count: u32, other: u128) -> Result<List<u128>, NoMemory>
+fn first_and(count: u32, other: u128, weights: &mut List<u128>) -> Result<(), NoMemory>
     requires { 1 ≤ count }
-    ensures { IfOk result (λ weights. weights ≡ first_and count other) }
+    ensures { OnOk result (weights.new ≡ first_and count other) }
 {
-    let mut weights = List::new(alloc);
+    weights.clear();
     weights.push(1)?;
     for _ in 1..count {
         weights.push(other)?;
     }
-    Ok(weights)
+    Ok(())
 }
 
 /// The policy with the weight 1 for the first number of each information state, and `other` for
@@ -30,10 +30,11 @@ fn policy_with(alloc: Global, tree: &Tree, other: u128) -> Result<Policy, NoMemo
 {
     let mut weights = Packed::new(alloc);
     let mut totals = List::new(alloc);
+    let mut own = List::new(alloc);
     for state in 0..tree.states() {
         let count = tree.action_count(state);
-        let state_weights = first_and(alloc, count, other)?;
-        weights.push(state_weights.items())?;
+        first_and(count, other, &mut own)?;
+        weights.push(own.items())?;
         totals.push(1 + other * u128::from(count - 1))?;
     }
     Ok(Policy::new(weights, totals))

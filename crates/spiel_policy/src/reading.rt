@@ -1,57 +1,22 @@
-ghost use Rattle.std.specs.Prelude.{◌≡◌, ◌<◌, ◌+◌, ℕ, Err, length, count_by, is_some, Some, Ok, IfSome, IfNone, IfOk, OnOk, MatchResult, All};
-ghost use Rattle.std.specs.List.Sorted.{IsStrictlyIncreasing};
+ghost use Rattle.std.specs.Prelude.{◌≡◌, ◌<◌, ◌+◌, ℕ, Err, length, count_by, is_some, Ok, IfOk, OnOk, MatchResult};
 ghost use Rattle.serde_json.specs.View.{items_view, view};
-ghost use Rattle.spiel_tree.specs.States.{numbers_of, states_below};
+ghost use Rattle.spiel_tree.specs.States.{states_below};
 ghost use Rattle.spiel_tree.specs.Trees.{IsGameTree};
-ghost use Rattle.spiel_policy.specs.Entries.{IsFair};
 ghost use Rattle.spiel_policy.specs.Given.{IsFor};
-ghost use Rattle.spiel_policy.specs.Reading.{IsComputed, none_given, policy_of, profile_of_data, state_named, weights_at, with_data, with_entries};
-ghost use Rattle.spiel_policy.specs.Profiles.{AreReduced, Fits};
+ghost use Rattle.spiel_policy.specs.Reading.{IsComputed, none_given, policy_of, profile_of_data, with_data, with_entries};
+ghost use Rattle.spiel_policy.specs.Profiles.{Fits};
 ghost use Rattle.spiel_policy.specs.declared.fault.PolicyFault.TheVariants.{Missing};
 
-use crate::entries::{Entry, Pair, entry_of};
+use crate::adding::add_entry;
+use crate::entries::entry_of;
+use crate::entrywise::usual_policy;
 use crate::fault::PolicyFault;
 use crate::given::Given;
 use crate::heads::{entries_of, json_of};
 use crate::policy::Policy;
-use crate::weighing::{choices_of, weights_of_whole, whole_weight};
 use serde_json::Value;
-use spiel_frac::List;
 use spiel_tree::Tree;
 use std::alloc::Global;
-
-/// The information state that an entry is for.
-fn state_named(tree: &Tree, entry: &Entry) -> Option<u32>
-    ensures value { result ≡ state_named tree.now entry.now.player entry.now.text }
-    ensures within { IfSome result (λ state. state < length (states_below tree.now.players tree.now.rows)) }
-{
-    if entry.player >= tree.players() {
-        return None;
-    }
-    tree.find(entry.player, entry.text.bytes())
-}
-
-/// The weights that the pairs of an entry give the numbers of an information state.
-fn weights_at(
-    alloc: Global,
-    tree: &Tree,
-    state: u32,
-    number: u32,
-    pairs: &[Pair],
-) -> Result<List<u128>, PolicyFault>
-    requires game { IsGameTree tree.now }
-    requires state { state < length (states_below tree.now.players tree.now.rows) }
-    requires fair { All (λ pair. IsFair pair.weight) pairs.now }
-    ensures answer { MatchResult result
-        (λ weights. weights_at (numbers_of tree.now.players tree.now.rows state) number pairs.now ≡ Ok weights)
-        (IsComputed (weights_at (numbers_of tree.now.players tree.now.rows state) number pairs.now)) }
-    ensures reduced { IfOk result AreReduced }
-{
-    let found = choices_of(alloc, tree, state, pairs)?;
-    let choices = found.ok_or(PolicyFault::Action { entry: number })?;
-    let whole = whole_weight(pairs).ok_or(PolicyFault::Overflow { entry: number })?;
-    weights_of_whole(alloc, choices.as_slice(), whole)?.ok_or(PolicyFault::Sum { entry: number })
-}
 
 /// Takes the entry that a value is.
 fn take_entry(
@@ -70,13 +35,7 @@ fn take_entry(
     ensures counted { OnOk result (count_by is_some given.new ≡ count_by is_some given.old + 1) }
 {
     let entry = entry_of(alloc, value)?.ok_or(PolicyFault::Shape { entry: number })?;
-    let state = state_named(tree, &entry).ok_or(PolicyFault::UnknownState { entry: number })?;
-    if given.has(state) {
-        return Err(PolicyFault::Repeated { entry: number });
-    }
-    let weights = weights_at(alloc, tree, state, number, entry.pairs.items())?;
-    given.add(state, weights.items())?;
-    Ok(())
+    add_entry(alloc, tree, given, number, &entry)
 }
 
 /// Takes the entries in order.
@@ -110,7 +69,7 @@ fn policy_of(alloc: Global, tree: &Tree, value: &Value) -> Result<Policy, Policy
 
 // The policy of a file for a tree, or the first thing that is wrong with the file.
 #[tactic(auto, unfolding(crate::specs::Reading::policy_of))]
-fn read_file(alloc: Global, tree: &Tree, bytes: &[u8]) -> Result<Policy, PolicyFault>
+fn read_any_file(alloc: Global, tree: &Tree, bytes: &[u8]) -> Result<Policy, PolicyFault>
     ensures answer { MatchResult result
         (λ policy. policy_of tree.now bytes.now ≡ Ok policy)
         (IsComputed (policy_of tree.now bytes.now)) }
@@ -118,6 +77,20 @@ fn read_file(alloc: Global, tree: &Tree, bytes: &[u8]) -> Result<Policy, PolicyF
 {
     let value = json_of(alloc, bytes)?;
     policy_of(alloc, tree, &value)
+}
+
+// The same. A file in a usual form is read entry by entry, and any other, or one with a fault, as a
+// whole.
+fn read_file(alloc: Global, tree: &Tree, bytes: &[u8]) -> Result<Policy, PolicyFault>
+    ensures answer { MatchResult result
+        (λ policy. policy_of tree.now bytes.now ≡ Ok policy)
+        (IsComputed (policy_of tree.now bytes.now)) }
+    ensures fits { IfOk result (Fits tree.now) }
+{
+    match usual_policy(alloc, tree, bytes)? {
+        Some(policy) => Ok(policy),
+        None => read_any_file(alloc, tree, bytes),
+    }
 }
 
 /// The policy that a policy file gives for a tree, or the first thing that is wrong with the file.

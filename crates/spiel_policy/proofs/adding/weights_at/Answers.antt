@@ -8,7 +8,7 @@ use Rattle.spiel_tree.proofs.GameNumbers.{numbers_rise}
 use Rattle.spiel_policy.proofs.Reduced.{IsTable, parts_divide, small_whole-is, table_is, weights_reduced}
 use Rattle.spiel_policy.proofs.Steps.{ok_reduced}
 use Rattle.spiel_policy.proofs.Weights.{whole_positive}
-use Rattle.spiel_policy.proofs.reading.weights_at.Goals as goal
+use Rattle.spiel_policy.proofs.adding.weights_at.Goals as goal
 
 pub choices_of-requires-clause-rising : goal.choices_of-requires-clause-rising
 choices_of-requires-clause-rising c = numbers_rise c.args.tree.now c.requires.game c.args.state c.requires.state

@@ -4,7 +4,7 @@ use Rattle.spiel_tree.specs.States.{numbers_of, states_below}
 use Rattle.spiel_policy.specs.Reading.{Given}
 use Rattle.spiel_policy.proofs.GivenWeights.{counted_free}
 use Rattle.spiel_policy.proofs.Steps.{for_more, weights_long}
-use Rattle.spiel_policy.proofs.reading.take_entry.Goals as goal
+use Rattle.spiel_policy.proofs.adding.add_entry.Goals as goal
 
 pub returns-clause-for_tree : goal.returns-clause-for_tree
 returns-clause-for_tree c =
