@@ -32,14 +32,14 @@ use spiel_tree::Tree;
 use std::alloc::Global;
 
 /// Adds the lines of how many histories and information states there are.
-fn push_sizes(alloc: Global, tree: &Tree, out: &mut Text) -> Result<(), NoMemory>
+fn push_sizes(tree: &Tree, out: &mut Text) -> Result<(), NoMemory>
     ensures lines { OnOk result (out.new ≡ out.old ++ ended (histories_line tree.now) ++ ended (states_line tree.now)) }
     ensures recall { OnOk result (HasPerfectRecall tree.now.rows) }
 {
     out.push(b"histories ")?;
-    write_number(alloc, tree.histories(), out)?;
+    write_number(tree.histories(), out)?;
     out.push(b"\nstates ")?;
-    write_number(alloc, tree.states(), out)?;
+    write_number(tree.states(), out)?;
     out.push(b"\n")
 }
 
@@ -48,7 +48,7 @@ fn push_best_line(alloc: Global, player: u32, best: Frac, out: &mut Text) -> Res
     ensures { OnOk result (out.new ≡ out.old ++ ended (codes "best " ++ decimal player ++ codes " " ++ frac_text best)) }
 {
     out.push(b"best ")?;
-    write_number(alloc, player, out)?;
+    write_number(player, out)?;
     out.push(b" ")?;
     write_frac(alloc, best, out)?;
     out.push(b"\n")
@@ -104,15 +104,11 @@ fn nash_conv_fraction(work: &Work) -> Frac
 }
 
 /// Adds the line of NashConv.
-fn push_nash_conv(alloc: Global, work: &Work, out: &mut Text) -> Result<(), NoMemory>
-    requires { (p : ℕ) → p < work.now.judged.tree.players → is_made work.now p ≡ true }
-    ensures gap { OnOk result (pos 0 ≤ℤ nash_conv_of work.now.judged) }
-    ensures denominator { OnOk result (pos 0 <ℤ denominator_of work.now.judged) }
-    ensures fits { OnOk result (NumbersFit work.now.judged) }
-    ensures line { OnOk result (out.new ≡ out.old ++ ended (nash_conv_line work.now.judged)) }
+fn push_nash_conv(alloc: Global, gap: Frac, out: &mut Text) -> Result<(), NoMemory>
+    ensures { OnOk result (out.new ≡ out.old ++ ended (codes "nash_conv " ++ frac_text gap)) }
 {
     out.push(b"nash_conv ")?;
-    write_frac(alloc, nash_conv_fraction(work), out)?;
+    write_frac(alloc, gap, out)?;
     out.push(b"\n")
 }
 
@@ -143,39 +139,26 @@ fn push_exploitability(alloc: Global, work: &Work, out: &mut Text) -> Result<(),
 }
 
 /// Adds the line of a player's answer to what is seen.
-fn push_answer_line(
-    alloc: Global,
-    player: u32,
-    number: u32,
-    seen: &[u8],
-    out: &mut Text,
-) -> Result<(), NoMemory>
+fn push_answer_line(player: u32, number: u32, seen: &[u8], out: &mut Text) -> Result<(), NoMemory>
     ensures { OnOk result (out.new ≡ out.old ++ ended (codes "answer " ++ decimal player ++ codes " " ++ decimal number ++ codes " " ++ seen.now)) }
 {
     out.push(b"answer ")?;
-    write_number(alloc, player, out)?;
+    write_number(player, out)?;
     out.push(b" ")?;
-    write_number(alloc, number, out)?;
+    write_number(number, out)?;
     out.push(b" ")?;
     out.push(seen)?;
     out.push(b"\n")
 }
 
 /// Adds the line of what the best response takes at an information state.
-fn push_answer(
-    alloc: Global,
-    tree: &Tree,
-    work: &Work,
-    state: u32,
-    out: &mut Text,
-) -> Result<(), NoMemory>
+fn push_answer(tree: &Tree, work: &Work, state: u32, out: &mut Text) -> Result<(), NoMemory>
     requires tree { tree.now ≡ work.now.judged.tree }
     requires state { state < length (states_below tree.now.players tree.now.rows) }
     requires made { (p : ℕ) → p < work.now.judged.tree.players → is_made work.now p ≡ true }
     ensures { OnOk result (out.new ≡ out.old ++ ended (answer_line work.now.judged state)) }
 {
     push_answer_line(
-        alloc,
         tree.state_player(state),
         answer_at(work, state),
         tree.state_text(state),
@@ -184,25 +167,19 @@ fn push_answer(
 }
 
 /// Adds a line for each information state.
-fn push_answers(alloc: Global, tree: &Tree, work: &Work, out: &mut Text) -> Result<(), NoMemory>
+fn push_answers(tree: &Tree, work: &Work, out: &mut Text) -> Result<(), NoMemory>
     requires tree { tree.now ≡ work.now.judged.tree }
     requires made { (p : ℕ) → p < work.now.judged.tree.players → is_made work.now p ≡ true }
     ensures { OnOk result (out.new ≡ out.old ++ lines_text (answer_lines work.now.judged)) }
 {
     for state in 0..tree.states() {
-        push_answer(alloc, tree, work, state, out)?;
+        push_answer(tree, work, state, out)?;
     }
     Ok(())
 }
 
 /// Adds the lines of the best responses, unless the report is brief.
-fn push_responses(
-    alloc: Global,
-    tree: &Tree,
-    work: &Work,
-    brief: bool,
-    out: &mut Text,
-) -> Result<(), NoMemory>
+fn push_responses(tree: &Tree, work: &Work, brief: bool, out: &mut Text) -> Result<(), NoMemory>
     requires tree { tree.now ≡ work.now.judged.tree }
     requires made { (p : ℕ) → p < work.now.judged.tree.players → is_made work.now p ≡ true }
     ensures { OnOk result (out.new ≡ out.old ++ response_report brief work.now.judged) }
@@ -210,7 +187,7 @@ fn push_responses(
     if brief {
         return Ok(());
     }
-    push_answers(alloc, tree, work, out)
+    push_answers(tree, work, out)
 }
 
 /// Adds the lines of NashConv and of the exploitability.
@@ -221,7 +198,7 @@ fn push_gap(alloc: Global, work: &Work, out: &mut Text) -> Result<(), NoMemory>
     ensures fits { OnOk result (NumbersFit work.now.judged) }
     ensures lines { OnOk result (out.new ≡ out.old ++ ended (nash_conv_line work.now.judged) ++ ended (exploitability_line work.now.judged)) }
 {
-    push_nash_conv(alloc, work, out)?;
+    push_nash_conv(alloc, nash_conv_fraction(work), out)?;
     push_exploitability(alloc, work, out)
 }
 
@@ -238,7 +215,7 @@ fn push_value_report(
     ensures right { OnOk result (IsRight work.old.judged) }
     ensures lines { OnOk result (out.new ≡ out.old ++ value_report work.old.judged) }
 {
-    push_sizes(alloc, tree, out)?;
+    push_sizes(tree, out)?;
     push_values(alloc, work, tree.players(), out)?;
     push_bests(alloc, work, tree.players(), out)?;
     push_gap(alloc, work, out)
@@ -263,7 +240,7 @@ pub fn report(
 {
     title(alloc, text, out)?;
     push_value_report(alloc, tree, work, out)?;
-    push_responses(alloc, tree, work, brief, out)
+    push_responses(tree, work, brief, out)
 }
 
 /// The report on a policy over a tree.

@@ -239,11 +239,11 @@ pub fn status(refusal: &Refusal) -> u8
 }
 
 /// Adds words and the place that they speak of.
-fn push_place(alloc: Global, words: &[u8], at: u32, out: &mut Text) -> Result<(), NoMemory>
+fn push_place(words: &[u8], at: u32, out: &mut Text) -> Result<(), NoMemory>
     ensures { OnOk result (out.new ≡ out.old ++ (words.now ++ decimal at)) }
 {
     out.push(words)?;
-    write_number(alloc, at, out)
+    write_number(at, out)
 }
 
 /// Adds words, and the parameter of a game.
@@ -274,20 +274,18 @@ fn repeat_message(fault: RepeatFault) -> &'static [u8]
 }
 
 /// Adds why a game doesn't start behind some first numbers, in words.
-fn push_start(alloc: Global, fault: WalkFault, out: &mut Text) -> Result<(), NoMemory>
+fn push_start(fault: WalkFault, out: &mut Text) -> Result<(), NoMemory>
     ensures { OnOk result (out.new ≡ out.old ++ start_message fault) }
 {
     match fault {
-        WalkFault::Illegal { at } => push_place(alloc, b"start: illegal action at ", at, out),
-        WalkFault::Unfinished { at } => {
-            push_place(alloc, b"start: unfinished joint step at ", at, out)
-        }
+        WalkFault::Illegal { at } => push_place(b"start: illegal action at ", at, out),
+        WalkFault::Unfinished { at } => { push_place(b"start: unfinished joint step at ", at, out) }
         WalkFault::NoMemory => out.push(b"no memory"),
     }
 }
 
 /// Adds what is wrong with the name of a game, in words.
-fn push_loading(alloc: Global, fault: &LoadFault, out: &mut Text) -> Result<(), NoMemory>
+fn push_loading(fault: &LoadFault, out: &mut Text) -> Result<(), NoMemory>
     ensures { OnOk result (out.new ≡ out.old ++ load_message fault.now) }
 {
     match fault {
@@ -298,7 +296,7 @@ fn push_loading(alloc: Global, fault: &LoadFault, out: &mut Text) -> Result<(), 
         LoadFault::BadParam { name, key } => push_parameter(b"bad parameter ", key, name, out),
         LoadFault::TooDeep => out.push(b"more than three transforms"),
         LoadFault::Repeat(fault) => out.push(repeat_message(*fault)),
-        LoadFault::Start(fault) => push_start(alloc, *fault, out),
+        LoadFault::Start(fault) => push_start(*fault, out),
         LoadFault::NoMemory => out.push(b"no memory"),
     }
 }
@@ -327,42 +325,41 @@ fn push_bad(alloc: Global, bad: &BadInput, out: &mut Text) -> Result<(), NoMemor
         BadInput::FileTooLong => out.push(b"file too long"),
         BadInput::BadList => out.push(b"bad list"),
         BadInput::GameString(fault) => push_string_fault(alloc, *fault, out),
-        BadInput::Loading(fault) => push_loading(alloc, fault, out),
+        BadInput::Loading(fault) => push_loading(fault, out),
         BadInput::SavedFile(fault) => push_saved_fault(alloc, *fault, out),
-        BadInput::Illegal { at } => push_place(alloc, b"illegal action at ", *at, out),
-        BadInput::Unfinished { at } => push_place(alloc, b"unfinished joint step at ", *at, out),
+        BadInput::Illegal { at } => push_place(b"illegal action at ", *at, out),
+        BadInput::Unfinished { at } => push_place(b"unfinished joint step at ", *at, out),
         BadInput::PolicyJson => out.push(b"policy: not JSON"),
         BadInput::PolicyHead => out.push(b"policy: bad head"),
         BadInput::PolicyShape { entry } => {
-            push_place(alloc, b"policy: bad shape in entry ", *entry, out)
+            push_place(b"policy: bad shape in entry ", *entry, out)
         }
     }
 }
 
 /// Adds a history: its numbers in brackets, with commas between them.
-fn push_history(alloc: Global, history: &[u32], out: &mut Text) -> Result<(), NoMemory>
+fn push_history(history: &[u32], out: &mut Text) -> Result<(), NoMemory>
     ensures { OnOk result (out.new ≡ out.old ++ history_text history.now) }
 {
     out.push(b"[")?;
     for (index, number) in history.iter().enumerate() {
-        push_listed(alloc, index == 0, *number, out)?;
+        push_listed(index == 0, *number, out)?;
     }
     out.push(b"]")
 }
 
 /// Adds a number, behind a comma unless it is the first.
-fn push_listed(alloc: Global, first: bool, number: u32, out: &mut Text) -> Result<(), NoMemory>
+fn push_listed(first: bool, number: u32, out: &mut Text) -> Result<(), NoMemory>
     ensures { OnOk result (out.new ≡ out.old ++ cond first (decimal number) (44 ∷ decimal number)) }
 {
     if !first {
         out.push(b",")?;
     }
-    write_number(alloc, number, out)
+    write_number(number, out)
 }
 
 /// Adds words, a player and two histories.
 fn push_pair(
-    alloc: Global,
     words: &[u8],
     player: u32,
     first: &[u32],
@@ -373,29 +370,28 @@ fn push_pair(
 {
     out.push(words)?;
     out.push(b" player ")?;
-    write_number(alloc, player, out)?;
+    write_number(player, out)?;
     out.push(b": ")?;
-    push_history(alloc, first, out)?;
+    push_history(first, out)?;
     out.push(b" and ")?;
-    push_history(alloc, second, out)
+    push_history(second, out)
 }
 
 /// Adds why a game can't be judged, in words.
-fn push_unjudged(alloc: Global, game: &Unjudged, out: &mut Text) -> Result<(), NoMemory>
+fn push_unjudged(game: &Unjudged, out: &mut Text) -> Result<(), NoMemory>
     ensures { OnOk result (out.new ≡ out.old ++ unjudged_message game.now) }
 {
     match game {
         Unjudged::TooMany => out.push(b"more than 1048576 histories"),
         Unjudged::Simultaneous { history } => {
             out.push(b"simultaneous node at ")?;
-            push_history(alloc, history.items(), out)
+            push_history(history.items(), out)
         }
         Unjudged::Recall {
             player,
             first,
             second,
         } => push_pair(
-            alloc,
             b"imperfect recall of",
             *player,
             first.items(),
@@ -407,7 +403,6 @@ fn push_unjudged(alloc: Global, game: &Unjudged, out: &mut Text) -> Result<(), N
             first,
             second,
         } => push_pair(
-            alloc,
             b"actions differ for",
             *player,
             first.items(),
@@ -418,27 +413,27 @@ fn push_unjudged(alloc: Global, game: &Unjudged, out: &mut Text) -> Result<(), N
 }
 
 /// Adds what is said of an information state without an entry.
-fn push_missing(alloc: Global, player: u32, text: &Text, out: &mut Text) -> Result<(), NoMemory>
+fn push_missing(player: u32, text: &Text, out: &mut Text) -> Result<(), NoMemory>
     ensures { OnOk result (out.new ≡ out.old ++ (codes "policy: no entry for player " ++ decimal player ++ codes " state " ++ text.now)) }
 {
-    push_place(alloc, b"policy: no entry for player ", player, out)?;
+    push_place(b"policy: no entry for player ", player, out)?;
     push_named(b" state ", text, out)
 }
 
 /// Adds why a policy file gives no policy of a game, in words.
-fn push_unfit(alloc: Global, unfit: &Unfit, out: &mut Text) -> Result<(), NoMemory>
+fn push_unfit(unfit: &Unfit, out: &mut Text) -> Result<(), NoMemory>
     ensures { OnOk result (out.new ≡ out.old ++ unfit_message unfit.now) }
 {
     match unfit {
         Unfit::UnknownState { entry } => {
-            push_place(alloc, b"policy: unknown state in entry ", *entry, out)
+            push_place(b"policy: unknown state in entry ", *entry, out)
         }
         Unfit::Repeated { entry } => {
-            push_place(alloc, b"policy: repeated state in entry ", *entry, out)
+            push_place(b"policy: repeated state in entry ", *entry, out)
         }
-        Unfit::Action { entry } => push_place(alloc, b"policy: action in entry ", *entry, out),
-        Unfit::Sum { entry } => push_place(alloc, b"policy: sum in entry ", *entry, out),
-        Unfit::Missing { player, text } => push_missing(alloc, *player, text, out),
+        Unfit::Action { entry } => push_place(b"policy: action in entry ", *entry, out),
+        Unfit::Sum { entry } => push_place(b"policy: sum in entry ", *entry, out),
+        Unfit::Missing { player, text } => push_missing(*player, text, out),
     }
 }
 
@@ -450,8 +445,8 @@ fn push_reason(alloc: Global, refusal: &Refusal, out: &mut Text) -> Result<(), N
         Refusal::Usage => out.push(b"usage: spiel VERB ARGUMENTS"),
         Refusal::Read => out.push(b"read fault"),
         Refusal::Bad(bad) => push_bad(alloc, bad, out),
-        Refusal::Unjudged(game) => push_unjudged(alloc, game, out),
-        Refusal::Unfit(unfit) => push_unfit(alloc, unfit, out),
+        Refusal::Unjudged(game) => push_unjudged(game, out),
+        Refusal::Unfit(unfit) => push_unfit(unfit, out),
         Refusal::Overflow => out.push(b"numbers pass 127 bits"),
         Refusal::NoMemory => out.push(b"no memory"),
     }

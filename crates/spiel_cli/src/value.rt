@@ -35,7 +35,7 @@ fn push_value(alloc: Global, work: &Work, player: u32, out: &mut Text) -> Result
     ensures { OnOk result (out.new ≡ out.old ++ ended (value_line work.now.judged player)) }
 {
     out.push(b"value ")?;
-    write_number(alloc, player, out)?;
+    write_number(player, out)?;
     out.push(b" ")?;
     write_frac(alloc, value_fraction(work, player), out)?;
     out.push(b"\n")

@@ -120,15 +120,19 @@ pub fn push_bytes(alloc: Global, text: &[u8], out: &mut Text) -> Result<(), Unre
     Ok(())
 }
 
-/// How many backslashes stand at the end.
-fn backslashes(text: &[u8]) -> usize {
-    text.iter().rev().take_while(|byte| **byte == b'\\').count()
+/// Whether the text ends with a backslash that no other one stands for.
+fn ends_open(text: &[u8]) -> bool {
+    let mut is_open = false;
+    for byte in text {
+        is_open = *byte == b'\\' && !is_open;
+    }
+    is_open
 }
 
 /// Adds the bytes of a line, which ends with a line feed, unless a backslash stands at its end.
 pub fn push_line(alloc: Global, text: &[u8], out: &mut Text) -> Result<(), Unread> {
     if let [front @ .., b'\\'] = text
-        && backslashes(front) % 2 == 0
+        && ends_open(text)
     {
         return push_bytes(alloc, front, out);
     }

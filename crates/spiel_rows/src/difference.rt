@@ -134,6 +134,6 @@ pub fn push_difference(
 /// Adds which call failed in a run.
 pub fn push_call(alloc: Global, number: u32, report: &mut Text) -> Result<(), NoMemory> {
     report.push(b"with call ")?;
-    write_number(alloc, number, report)?;
+    write_number(number, report)?;
     report.push(b" failing\n")
 }

@@ -13,16 +13,14 @@ use std::num::NonZeroUsize;
 /// What the lines of a row have said so far.
 #[derive(Drop)]
 pub struct Draft {
-    says: Option<Text>,
-    words: Option<Vec<String>>,
+    case: Case,
+    has_comment: bool,
+    has_words: bool,
+    has_status: bool,
     files: Files,
+    /// The name of the file that is being read, and what there is of it.
     name: Option<Text>,
     content: Text,
-    script: Script,
-    status: Option<u8>,
-    out: Text,
-    err: Text,
-    counts: List<(Count, u32)>,
 }
 
 /// Fills a place that one line of a row may fill.
@@ -57,6 +55,16 @@ fn numbers(alloc: Global, text: &[u8]) -> Result<List<u32>, Unread> {
     }
 }
 
+/// Whether the count is among those that are named.
+fn names(counts: &[(Count, u32)], count: Count) -> bool {
+    for named in counts {
+        if named.0 == count {
+            return true;
+        }
+    }
+    false
+}
+
 impl SinkScript {
     /// A sink whose calls don't fail, with ample room.
     fn new() -> SinkScript {
@@ -85,6 +93,16 @@ impl Script {
         }
     }
 
+    /// Says how many bytes a call takes.
+    fn take(&mut self, stream: Stream, text: &[u8]) -> Result<(), Unread> {
+        fill(&mut self.sink(stream).most, amount(text)?)
+    }
+
+    /// Says how many bytes are taken in all.
+    fn limit(&mut self, stream: Stream, text: &[u8]) -> Result<(), Unread> {
+        fill(&mut self.sink(stream).room, number(text)?)
+    }
+
     /// Says that the calls fail one after the other.
     fn fail_each(&mut self, alloc: Global, device: Device) -> Result<(), Unread> {
         if self.each.is_some() {
@@ -96,24 +114,34 @@ impl Script {
 }
 
 impl Draft {
-    /// A row without a line.
-    pub fn new(alloc: Global) -> Draft {
-        Draft {
-            says: None,
-            words: None,
-            files: List::new(alloc),
-            name: None,
-            content: Text::new(alloc),
-            script: Script {
-                shelf: None,
-                out: SinkScript::new(),
-                err: SinkScript::new(),
-                each: None,
-            },
-            status: None,
+    /// A row without a line, which begins on this one.
+    pub fn new(alloc: Global, line: u32) -> Draft {
+        let script = Script {
+            shelf: None,
+            out: SinkScript::new(),
+            err: SinkScript::new(),
+            each: None,
+        };
+        let wants = Wants {
+            status: 0,
             out: Text::new(alloc),
             err: Text::new(alloc),
             counts: List::new(alloc),
+        };
+        Draft {
+            case: Case {
+                line,
+                says: Text::new(alloc),
+                words: Vec::new(alloc),
+                script,
+                wants,
+            },
+            has_comment: false,
+            has_words: false,
+            has_status: false,
+            files: List::new(alloc),
+            name: None,
+            content: Text::new(alloc),
         }
     }
 
@@ -122,39 +150,58 @@ impl Draft {
         let (kind, rest) = kind_of(line).ok_or(RowFault::UnknownLine)?;
         self.check_place(kind)?;
         match kind {
-            Kind::Comment => self.add_comment(alloc, rest),
-            Kind::Words => fill(&mut self.words, read_command(alloc, rest)?),
+            Kind::Comment => self.add_comment(rest),
+            Kind::Words => self.add_words(alloc, rest),
             Kind::File => self.add_file(alloc, rest),
             Kind::Content => self.add_content(alloc, rest),
-            Kind::Output => push_line(alloc, rest, &mut self.out),
-            Kind::Message => push_line(alloc, rest, &mut self.err),
-            Kind::Status => fill(&mut self.status, status(rest)?),
+            Kind::Output => push_line(alloc, rest, &mut self.case.wants.out),
+            Kind::Message => push_line(alloc, rest, &mut self.case.wants.err),
+            Kind::Status => self.add_status(rest),
             Kind::Fails(device) => self.add_fails(alloc, device, rest),
-            Kind::Takes(stream) => fill(&mut self.script.sink(stream).most, amount(rest)?),
-            Kind::Room(stream) => fill(&mut self.script.sink(stream).room, number(rest)?),
-            Kind::Count(count) => self.add_count(count, number(rest)?),
+            Kind::Takes(stream) => self.case.script.take(stream, rest),
+            Kind::Room(stream) => self.case.script.limit(stream, rest),
+            Kind::Count(count) => self.add_count(count, rest),
         }
     }
 
     /// Comments come first, then the words, then all else.
     fn check_place(&self, kind: Kind) -> Result<(), RowFault> {
         match kind {
-            Kind::Comment if self.words.is_some() => Err(RowFault::LateComment),
+            Kind::Comment if self.has_words => Err(RowFault::LateComment),
             Kind::Comment => Ok(()),
-            _ if self.says.is_none() => Err(RowFault::NoComment),
+            _ if !self.has_comment => Err(RowFault::NoComment),
             Kind::Words => Ok(()),
-            _ if self.words.is_none() => Err(RowFault::NoWords),
+            _ if !self.has_words => Err(RowFault::NoWords),
             _ => Ok(()),
         }
     }
 
     /// Keeps the first comment.
-    fn add_comment(&mut self, alloc: Global, text: &[u8]) -> Result<(), Unread> {
-        if self.says.is_none() {
-            let mut says = Text::new(alloc);
-            says.push(text)?;
-            self.says = Some(says);
+    fn add_comment(&mut self, text: &[u8]) -> Result<(), Unread> {
+        if !self.has_comment {
+            self.case.says.push(text)?;
+            self.has_comment = true;
         }
+        Ok(())
+    }
+
+    fn add_words(&mut self, alloc: Global, text: &[u8]) -> Result<(), Unread> {
+        let words = read_command(alloc, text)?;
+        if self.has_words {
+            return Err(Unread::NoRow(RowFault::SecondLine));
+        }
+        self.case.words = words;
+        self.has_words = true;
+        Ok(())
+    }
+
+    fn add_status(&mut self, text: &[u8]) -> Result<(), Unread> {
+        let status = status(text)?;
+        if self.has_status {
+            return Err(Unread::NoRow(RowFault::SecondLine));
+        }
+        self.case.wants.status = status;
+        self.has_status = true;
         Ok(())
     }
 
@@ -184,41 +231,50 @@ impl Draft {
 
     fn add_fails(&mut self, alloc: Global, device: Device, text: &[u8]) -> Result<(), Unread> {
         if text == b"each".as_slice() {
-            return self.script.fail_each(alloc, device);
+            return self.case.script.fail_each(alloc, device);
         }
-        self.script.fail(device, numbers(alloc, text)?)
+        self.case.script.fail(device, numbers(alloc, text)?)
     }
 
-    fn add_count(&mut self, count: Count, number: u32) -> Result<(), Unread> {
-        if self.counts.items().iter().any(|entry| entry.0 == count) {
+    fn add_count(&mut self, count: Count, text: &[u8]) -> Result<(), Unread> {
+        let number = number(text)?;
+        let counts = &mut self.case.wants.counts;
+        if names(counts.items(), count) {
             return Err(Unread::NoRow(RowFault::SecondLine));
         }
-        self.counts.push((count, number))?;
+        counts.push((count, number))?;
         Ok(())
     }
 
-    /// The row that begins on this line, with all that its lines have said.
-    pub fn finish(mut self, alloc: Global, line: u32) -> Result<Row, Unread> {
+    /// What each row has and this one hasn't.
+    fn missing(&self) -> Option<RowFault> {
+        if !self.has_comment {
+            return Some(RowFault::NoComment);
+        }
+        if !self.has_words {
+            return Some(RowFault::NoWords);
+        }
+        if !self.has_status {
+            return Some(RowFault::NoStatus);
+        }
+        None
+    }
+
+    /// Ends what the lines have said.
+    fn end(&mut self, alloc: Global) -> Result<(), Unread> {
         self.end_file(alloc)?;
-        let says = self.says.ok_or(RowFault::NoComment)?;
-        let words = self.words.ok_or(RowFault::NoWords)?;
-        let status = self.status.ok_or(RowFault::NoStatus)?;
-        let wants = Wants {
-            status,
-            out: self.out,
-            err: self.err,
-            counts: self.counts,
-        };
-        let case = Case {
-            line,
-            says,
-            words,
-            script: self.script,
-            wants,
-        };
+        match self.missing() {
+            Some(fault) => Err(Unread::NoRow(fault)),
+            None => Ok(()),
+        }
+    }
+
+    /// The row, with all that its lines have said.
+    pub fn finish(mut self, alloc: Global) -> Result<Row, Unread> {
+        self.end(alloc)?;
         Ok(Row {
             files: self.files,
-            case,
+            case: self.case,
         })
     }
 }

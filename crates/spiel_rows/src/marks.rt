@@ -125,7 +125,10 @@ static MARKS: [Mark; 21] = [
 
 /// What follows the mark and a space, or nothing where the mark stands alone.
 fn behind_mark<'a>(line: &'a [u8], mark: &[u8]) -> Option<&'a [u8]> {
-    match line.strip_prefix(mark)? {
+    if line.len() < mark.len() || &line[..mark.len()] != mark {
+        return None;
+    }
+    match &line[mark.len()..] {
         [] => Some(&[]),
         [b' ', rest @ ..] => Some(rest),
         _ => None,

@@ -3,10 +3,10 @@ ghost use Rattle.std.specs.Prelude.{◌<◌, ◌≤◌, length};
 
 use crate::fault::{RowFault, Unread};
 use crate::reading::read_row;
-use crate::row::Row;
+use crate::row::{Case, Row};
 use crate::running::run_row;
 use crate::tally::{Stop, Tally};
-use spiel_frac::{NoMemory, Text, write_number};
+use spiel_frac::{NoMemory, Text, cut, write_number};
 use spiel_io::{Sink, send};
 use std::alloc::Global;
 
@@ -18,29 +18,48 @@ fn cut_paragraph(text: &[u8]) -> (&[u8], &[u8])
     if let [b'\n', rest @ ..] = text {
         return (&[], rest);
     }
-    match text.windows(2).position(|pair| pair == b"\n\n".as_slice()) {
-        Some(at) => (&text[..at], &text[at + 2..]),
-        None => (text, &[]),
+    for (at, byte) in text.iter().enumerate() {
+        if let [b'\n', rest @ ..] = &text[at + 1..]
+            && *byte == b'\n'
+        {
+            return (&text[..at], rest);
+        }
     }
+    (text, &[])
 }
 
 /// How many line feeds there are.
 fn line_feeds(text: &[u8]) -> u32 {
-    let count = text.iter().filter(|byte| **byte == b'\n').count();
-    count.min(u32::MAX as usize) as u32
+    let mut count = 0u32;
+    for byte in text {
+        if *byte == b'\n' {
+            count = count.saturating_add(1);
+        }
+    }
+    count
 }
 
 /// Whether a comment stands alone.
 fn is_heading(text: &[u8]) -> bool {
-    text.split(|byte| *byte == b'\n')
-        .all(|line| line.starts_with(b"#"))
+    let mut rest = text;
+    while let Some((line, behind)) = cut(rest, b'\n') {
+        if !is_comment(line) {
+            return false;
+        }
+        rest = behind;
+    }
+    is_comment(rest)
+}
+
+fn is_comment(line: &[u8]) -> bool {
+    matches!(line, [b'#', ..])
 }
 
 /// Adds the name of the file and the number of the line.
 fn push_place(alloc: Global, name: &[u8], line: u32, report: &mut Text) -> Result<(), NoMemory> {
     report.push(name)?;
     report.push(b":")?;
-    write_number(alloc, line, report)?;
+    write_number(line, report)?;
     report.push(b": ")
 }
 
@@ -51,12 +70,17 @@ fn push_fault(fault: RowFault, report: &mut Text) -> Result<(), NoMemory> {
     report.push(b"\n")
 }
 
+/// Adds the line that tells which row it is, and what it shows.
+fn push_title(alloc: Global, name: &[u8], case: &Case, report: &mut Text) -> Result<(), NoMemory> {
+    push_place(alloc, name, case.line, report)?;
+    report.push(case.says.bytes())?;
+    report.push(b"\n")
+}
+
 /// Runs a row, and answers whether it agrees. It is told what it shows, and what differs.
 fn judge_row(alloc: Global, name: &[u8], row: Row, report: &mut Text) -> Result<bool, NoMemory> {
     let Row { files, case } = row;
-    push_place(alloc, name, case.line, report)?;
-    report.push(case.says.bytes())?;
-    report.push(b"\n")?;
+    push_title(alloc, name, &case, report)?;
     run_row(alloc, &case, files, report)
 }
 
@@ -89,6 +113,14 @@ fn tell<O: Sink>(agrees: bool, report: &Text, out: &mut O) -> Result<(), Stop> {
     Ok(())
 }
 
+/// The text without a line feed at its end.
+fn without_end(text: &[u8]) -> &[u8] {
+    match text {
+        [front @ .., b'\n'] => front,
+        _ => text,
+    }
+}
+
 /// Runs what stands between two empty lines: a row, a heading, or nothing.
 fn run_paragraph<O: Sink>(
     alloc: Global,
@@ -100,7 +132,7 @@ fn run_paragraph<O: Sink>(
 ) -> Result<(), Stop>
     ensures { tally.old.others ≤ tally.new.others }
 {
-    let text = text.strip_suffix(b"\n").unwrap_or(text);
+    let text = without_end(text);
     if text.is_empty() || is_heading(text) {
         return Ok(());
     }

@@ -1,6 +1,6 @@
 //! Runs of a row.
-ghost use Rattle.std.specs.Prelude.{◌≡◌, ◌↔◌, ◌*◌, ◌<◌, [], take, IsTrue};
-ghost use Rattle.spiel_rows.specs.Comparing.{count_of};
+ghost use Rattle.std.specs.Prelude.{◌≡◌, ◌↔◌, ◌*◌, ◌<◌, [], take, IsTrue, IfOk};
+ghost use Rattle.spiel_rows.specs.Comparing.{Agrees, count_of};
 ghost use Rattle.spiel_rows.specs.Runs.{IsOwn, faults_of};
 ghost use Rattle.spiel_rows.specs.declared.row.Device.TheVariants.{Shelf, Sink};
 ghost use Rattle.spiel_rows.specs.declared.row.Stream.TheVariants.{Output, Message};
@@ -213,6 +213,22 @@ fn wanted_of<'a>(case: &'a Case, call: Call, outcome: &Outcome) -> Wanted<'a>
     wanted_of_failed(case, call)
 }
 
+/// Whether all that is wanted came of the run. What differs is added to the report.
+fn judge(
+    alloc: Global,
+    wanted: &Wanted<'_>,
+    outcome: &Outcome,
+    report: &mut Text,
+) -> Result<bool, NoMemory>
+    ensures { IfOk result (λ agreed. IsTrue agreed ↔ Agrees wanted.now outcome.now) }
+{
+    if agrees(wanted, outcome) {
+        return Ok(true);
+    }
+    push_difference(alloc, wanted, outcome, report)?;
+    Ok(false)
+}
+
 /// How a run went in which a call was to fail.
 enum Turn {
     /// It failed, and what had to come came.
@@ -221,6 +237,26 @@ enum Turn {
     Last,
     /// Something else came.
     Differs,
+}
+
+/// How this run went, in which a call was to fail. What differs is added to the report.
+fn turn_of(
+    alloc: Global,
+    case: &Case,
+    call: Call,
+    outcome: &Outcome,
+    report: &mut Text,
+) -> Result<Turn, NoMemory> {
+    let wanted = wanted_of(case, call, outcome);
+    if !agrees(&wanted, outcome) {
+        push_call(alloc, call.number, report)?;
+        push_difference(alloc, &wanted, outcome, report)?;
+        return Ok(Turn::Differs);
+    }
+    if outcome.is_quiet(call.device) {
+        return Ok(Turn::Last);
+    }
+    Ok(Turn::Failed)
 }
 
 /// Runs a row with a call that fails. What differs is added to the report.
@@ -238,16 +274,7 @@ fn run_turn(
         files,
         Some(call),
     )?;
-    let wanted = wanted_of(case, call, &outcome);
-    if !agrees(&wanted, &outcome) {
-        push_call(alloc, call.number, report)?;
-        push_difference(alloc, &wanted, &outcome, report)?;
-        return Ok(Turn::Differs);
-    }
-    if outcome.is_quiet(call.device) {
-        return Ok(Turn::Last);
-    }
-    Ok(Turn::Failed)
+    turn_of(alloc, case, call, &outcome, report)
 }
 
 /// Runs a row once with each call of the device failing, up to the run in which none fails. What
@@ -271,6 +298,13 @@ fn run_each(
     Ok(false)
 }
 
+/// Runs a row without a call that fails in turn, and answers whether it agrees. What differs is added
+/// to the report.
+fn run_once(alloc: Global, case: &Case, files: Files, report: &mut Text) -> Result<bool, NoMemory> {
+    let outcome = play(alloc, case.words.as_slice(), &case.script, files, None)?;
+    judge(alloc, &wanted(&case.wants), &outcome, report)
+}
+
 /// Runs a row, and answers whether it agrees. What differs is added to the report.
 pub fn run_row(
     alloc: Global,
@@ -278,14 +312,8 @@ pub fn run_row(
     files: Files,
     report: &mut Text,
 ) -> Result<bool, NoMemory> {
-    if let Some(device) = case.script.each {
-        return run_each(alloc, case, &files, device, report);
+    match case.script.each {
+        Some(device) => run_each(alloc, case, &files, device, report),
+        None => run_once(alloc, case, files, report),
     }
-    let outcome = play(alloc, case.words.as_slice(), &case.script, files, None)?;
-    let wanted = wanted(&case.wants);
-    if agrees(&wanted, &outcome) {
-        return Ok(true);
-    }
-    push_difference(alloc, &wanted, &outcome, report)?;
-    Ok(false)
 }

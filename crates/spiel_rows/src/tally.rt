@@ -49,9 +49,9 @@ impl Tally {
 
     /// Adds the line that tells both counts.
     pub fn push_text(&self, alloc: Global, text: &mut Text) -> Result<(), NoMemory> {
-        write_number(alloc, self.agreeing, text)?;
+        write_number(self.agreeing, text)?;
         text.push(b" rows agree, ")?;
-        write_number(alloc, self.others, text)?;
+        write_number(self.others, text)?;
         text.push(b" don't\n")
     }
 }

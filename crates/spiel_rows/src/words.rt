@@ -11,10 +11,12 @@ use std::str;
 fn behind_spaces(text: &[u8]) -> &[u8]
     ensures { length result.now ≤ length text.now }
 {
-    match text.iter().position(|byte| *byte != b' ') {
-        Some(at) => &text[at..],
-        None => &[],
+    for (i, byte) in text.iter().enumerate() {
+        if *byte != b' ' {
+            return &text[i..];
+        }
     }
+    &[]
 }
 
 /// Where a quotation ends: at the first quotation mark that no backslash stands for.

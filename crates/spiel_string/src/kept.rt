@@ -149,7 +149,7 @@ fn close(alloc: Global, kept: &mut Kept) -> Result<(), NoMemory>
 fn close_with(alloc: Global, kept: &mut Kept, mode: Mode) -> Result<(), NoMemory>
     ensures { OnOk result (kept_view kept.new ≡ closed_with mode (kept_view kept.old)) }
 {
-    if mode == Mode::Opened {
+    if matches!(mode, Mode::Opened) {
         return close(alloc, kept);
     }
     end_value(alloc, kept)?;

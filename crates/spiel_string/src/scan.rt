@@ -2,7 +2,7 @@ ghost use Rattle.std.specs.Prelude.{◌≡◌, ◌<◌, ◌^◌, ◌+◌};
 ghost use Rattle.spiel_string.specs.Scan.{class};
 
 /// What a byte of a game string is for.
-#[derive(Clone, Copy, Debug, PartialEq, Eq)]
+#[derive(Clone, Copy)]
 pub enum Class {
     Space,
     /// An opening bracket.
@@ -22,7 +22,7 @@ pub enum Class {
 }
 
 /// How far the reading of a game string is.
-#[derive(Clone, Copy, Debug, PartialEq, Eq)]
+#[derive(Clone, Copy)]
 pub enum Mode {
     /// Before the outermost name.
     Start,

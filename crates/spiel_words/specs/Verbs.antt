@@ -1,5 +1,5 @@
 -- The verbs, and the command that the words are.
-use Rattle.std.specs.Prelude.{List, [], ◌∷◌, Option, Some, None, option_and_then, if◌then◌else◌, codes}
+use Rattle.std.specs.Prelude.{List, [], ◌∷◌, Option, Some, None, option_and_then, option_map, if◌then◌else◌, codes}
 use Rattle.std.specs.Str.{bytes_eq}
 use Rattle.spiel_words.specs.Line.{Line, Shape, Text, is_given, read_line, value_of}
 use Rattle.spiel_words.specs.declared.command.Command.{Command}
@@ -29,45 +29,52 @@ judge_shape = record { places = codes "game" ∷ codes "policy" ∷ []; flags = 
 
 -- ---- verbs
 
--- what is made of a value of the line
-abbrev pub by_value : Text → Line → (Text → Option Command) → Option Command
-by_value name line make = option_and_then make (value_of name line)
+-- the word for a place, where the words have this shape
+abbrev pub one_of : Shape → Text → List Text → Option Text
+one_of shape name words = option_and_then (value_of name) (read_line shape words)
 
-abbrev pub restore_of : Line → Option Command
-restore_of line = by_value (codes "file") line (λ file. Some (Restore file))
+-- the words for GAME and for another place of a line
+abbrev pub game_and : Text → Line → Option (Text × Text)
+game_and other line = option_and_then (λ game. option_map (λ word. (game, word)) (value_of other line)) (value_of (codes "game") line)
 
-abbrev pub save_of : Line → Option Command
-save_of line = by_value (codes "game") line (λ game. by_value (codes "list") line (λ moves. Some (Save game moves)))
+-- the same, where the words have this shape
+abbrev pub two_of : Shape → Text → List Text → Option (Text × Text)
+two_of shape other words = option_and_then (game_and other) (read_line shape words)
 
-abbrev pub legal_of : Line → Option Command
-legal_of line = by_value (codes "game") line (λ game. by_value (codes "list") line (λ moves. Some (Legal game moves)))
+-- the commands of the words behind each verb
+abbrev pub restore_of : List Text → Option Command
+restore_of words = option_map (λ file. Restore file) (one_of file_shape (codes "file") words)
 
-abbrev pub show_of : Line → Option Command
-show_of line = by_value (codes "game") line (λ game. Some (Show game))
+abbrev pub save_of : List Text → Option Command
+save_of words = option_map (λ two. Save two.0 two.1) (two_of list_shape (codes "list") words)
 
-abbrev pub value_command_of : Line → Option Command
-value_command_of line = by_value (codes "game") line (λ game. by_value (codes "policy") line (λ policy. Some (Value game policy)))
+abbrev pub legal_of : List Text → Option Command
+legal_of words = option_map (λ two. Legal two.0 two.1) (two_of list_shape (codes "list") words)
 
-abbrev pub policy_of : Line → Option Command
-policy_of line = by_value (codes "game") line (λ game. by_value (codes "policy") line (λ policy. Some (Policy game policy)))
+abbrev pub show_of : List Text → Option Command
+show_of words = option_map (λ game. Show game) (one_of game_shape (codes "game") words)
 
-abbrev pub judge_of : Line → Option Command
-judge_of line = by_value (codes "game") line (λ game. by_value (codes "policy") line
-    (λ policy. Some (Judge game policy (is_given (codes "brief") line))))
+abbrev pub value_command_of : List Text → Option Command
+value_command_of words = option_map (λ two. Value two.0 two.1) (two_of policy_shape (codes "policy") words)
 
--- the command of the words behind a verb, which have this shape
-abbrev pub command_by : Shape → (Line → Option Command) → List Text → Option Command
-command_by shape make words = option_and_then make (read_line shape words)
+abbrev pub policy_of : List Text → Option Command
+policy_of words = option_map (λ two. Policy two.0 two.1) (two_of policy_shape (codes "policy") words)
+
+abbrev pub judge_line : Line → Option Command
+judge_line line = option_map (λ two. Judge two.0 two.1 (is_given (codes "brief") line)) (game_and (codes "policy") line)
+
+abbrev pub judge_of : List Text → Option Command
+judge_of words = option_and_then judge_line (read_line judge_shape words)
 
 -- the command that the words are; none where they are no command
 abbrev pub command_of : List Text → Option Command
 command_of [] = None
 command_of (verb ∷ words) =
-    if bytes_eq verb (codes "restore") then command_by file_shape restore_of words
-    else if bytes_eq verb (codes "save") then command_by list_shape save_of words
-    else if bytes_eq verb (codes "legal") then command_by list_shape legal_of words
-    else if bytes_eq verb (codes "show") then command_by game_shape show_of words
-    else if bytes_eq verb (codes "value") then command_by policy_shape value_command_of words
-    else if bytes_eq verb (codes "policy") then command_by policy_shape policy_of words
-    else if bytes_eq verb (codes "judge") then command_by judge_shape judge_of words
+    if bytes_eq verb (codes "restore") then restore_of words
+    else if bytes_eq verb (codes "save") then save_of words
+    else if bytes_eq verb (codes "legal") then legal_of words
+    else if bytes_eq verb (codes "show") then show_of words
+    else if bytes_eq verb (codes "value") then value_command_of words
+    else if bytes_eq verb (codes "policy") then policy_of words
+    else if bytes_eq verb (codes "judge") then judge_of words
     else None
