@@ -5,3 +5,5 @@ pub mod LawLemmas
 pub mod CardsLeft
 pub mod Members
 pub mod Walks
+pub mod NodeLaws
+pub mod TurnLaws

@@ -41,6 +41,13 @@ pub IsPlay-more : (rules : Rules) (h : List ℕ) (a : ℕ) → IsPlay rules h �
 IsPlay-more rules h a play c =
     record { steps = Follows-append (next_of rules) [] h (a ∷ []) play.steps (c, tt) }
 
+-- the same of a state's history: at the root, and when a number was added
+pub IsPlay-start : (rules : Rules) (h : List ℕ) → h ≡ [] → IsPlay rules h
+IsPlay-start rules h e = subst (IsPlay rules) (sym e) (IsPlay-nil rules)
+
+pub IsPlay-pushed : (rules : Rules) (h after : List ℕ) (a : ℕ) → IsPlay rules h → Contains (next_of rules h) a → after ≡ h ++ a ∷ [] → IsPlay rules after
+IsPlay-pushed rules h after a play c e = subst (IsPlay rules) (sym e) (IsPlay-more rules h a play c)
+
 -- the front of a play
 pub IsPlay-front : (rules : Rules) (h i : List ℕ) → IsPlay rules (h ++ i) → IsPlay rules h
 IsPlay-front rules h i play = record { steps = Follows-front (next_of rules) [] h i play.steps }
@@ -62,3 +69,6 @@ IsPlay-take rules h k play =
 pub IsPlay-take_more : (rules : Rules) (h : List ℕ) (k : ℕ) → k < length h → IsPlay rules (take k h) → Contains (next_of rules (take k h)) (slice_index h k) → IsPlay rules (take (k + 1) h)
 IsPlay-take_more rules h k within play c =
     subst (λ z. IsPlay rules z) (sym (take_more h k 0 within)) (IsPlay-more rules (take k h) (slice_index h k) play c)
+
+-- what `apply` and `undo` need, by `using` before them
+pub ruleset play_steps = (IsPlay-more, IsPlay-back)

@@ -7,10 +7,14 @@ use Rattle.spiel_api.specs.Rules.{Rules, next_of}
 use Rattle.spiel_api.specs.Plays.{IsPlay}
 use Rattle.spiel_api.specs.Place.{IsOpen, IsOutside, IsAmongPlayers, HasInfo}
 
+-- a printable ASCII character
+abbrev pub IsPrinted : ℕ → Type 0
+IsPrinted b = (32 ≤ b) × (b ≤ 126)
+
 -- a text of printable ASCII characters, with at most so many bytes
 pub record IsPrintable (most : ℕ) (text : List ℕ) : Type 0 where
   pub short : length text ≤ most
-  pub ascii : All (λ b. (32 ≤ b) × (b ≤ 126)) text
+  pub ascii : All IsPrinted text
 
 -- how large a game may be
 pub record IsWithinLimits (rules : Rules) : Type 0 where

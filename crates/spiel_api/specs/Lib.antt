@@ -2,6 +2,7 @@ pub mod Rules
 pub mod Plays
 pub mod Place
 pub mod Laws
+pub mod Turns
 pub mod States
 pub mod Walks
 pub mod Deck

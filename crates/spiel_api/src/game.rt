@@ -1,4 +1,4 @@
-//! The trait of all games.
+//! What a game is: the trait of all games.
 ghost use Rattle.std.specs.Prelude.{◌≡◌, ◌<◌, ℕ, List, [], ◌∷◌, ◌++◌, length, slice_index, pos, IsTrue, ◌↔◌, IfOk, OnOk, OnErr};
 ghost use Rattle.std.specs.List.{Contains};
 ghost use Rattle.spiel_api.specs.declared.place.Place.TheVariants.{End, Chance, Move, Joint};

@@ -1,4 +1,4 @@
-//! Whose number is next.
+//! Whose number is next after a history.
 
 /// Whose number is next after a history. Players are counted from 0.
 #[derive(Clone, Copy, Debug, PartialEq, Eq)]

@@ -1,4 +1,4 @@
-//! From a list of numbers to a state.
+//! From a list of numbers to the state that it leads to, or why it leads to none, and what each fault says.
 ghost use Rattle.std.specs.Prelude.{◌≡◌, ◌<◌, IsTrue, ◌↔◌, IfOk, IfErr, OnOk, MatchResult, Some};
 ghost use Rattle.std.specs.Bool.{MatchBool};
 ghost use Rattle.std.specs.List.{Contains};

@@ -1,8 +1,8 @@
 -- The two boards of a state, and the cells that players have marked.
-use Rattle.std.proofs.Common.{◌≡◌, ℕ, ◌+◌, ◌<◌, ◌≤◌, ◌%◌, Bool, true, false, not, ◌||◌, List, [], ◌∷◌, ◌++◌, length, take, drop, get_or, set, cond, Option, Some, refl, ap, sym, subst, ◌∙◌, arith, ◌==◌}
+use Rattle.std.proofs.Common.{◌≡◌, ℕ, ◌+◌, ◌<◌, ◌≤◌, ◌%◌, Bool, true, false, not, ◌||◌, List, [], ◌∷◌, ◌++◌, length, take, drop, get_or, set, cond, refl, ap, sym, subst, ◌∙◌, arith, ◌==◌}
 use Rattle.std.specs.Prelude.{slice_index}
 use Rattle.std.specs.List.{Contains, filter}
-use Rattle.std.proofs.lemmas.Bool.{eq-eqb, or_parts}
+use Rattle.std.proofs.lemmas.Bool.{or_parts}
 use Rattle.std.proofs.lemmas.List.{get_or_at, take-append-drop, take_all, set-set, set-get_or}
 use Rattle.std.proofs.Math.Seq.{append_snoc}
 use Rattle.std.proofs.lemmas.List.Elements.{filter_more, filter-append}
@@ -10,8 +10,8 @@ use Rattle.std.proofs.lemmas.List.Filters.{length-filter_more}
 use Rattle.spiel_api.specs.Rules.{next_of}
 use Rattle.spiel_api.specs.Plays.{IsPlay}
 use Rattle.spiel_api.specs.Walks.{is_in}
-use Rattle.spiel_api.proofs.PlayLemmas.{IsPlay-more, IsPlay-last, IsPlay-back}
-use Rattle.spiel_board.specs.TicTacToe.{cells, cells_of, has_three, free_cells, cells_for, next_player, tic_tac_toe_rules}
+use Rattle.spiel_api.proofs.PlayLemmas.{IsPlay-pushed, IsPlay-last, IsPlay-back}
+use Rattle.spiel_board.specs.TicTacToe.{cells, cells_of, has_three, free_cells, tic_tac_toe_rules}
 use Rattle.spiel_board.specs.declared.tic_tac_toe.TicTacToeState.{TicTacToeState}
 use Rattle.spiel_board.specs.TicTacToeState.{marks, IsTicTacToeAt}
 use Rattle.spiel_board.specs.TicTacToePlays.{length-cells, get_or-cells, get_or-marks, marks-push, free_unmarked, next_free, play_small, next_small}
@@ -52,10 +52,6 @@ pub has_three-marks : (xs : List ℕ) (board : List Bool) → board ≡ marks xs
 unfolding cells has_three
 has_three-marks xs board e = ap (λ (b : List Bool). has_three (λ cell. get_or b cell false)) e
 
--- where a player moves, who has all free cells
-pub cells_for-mover : (next : Option ℕ) (free : List ℕ) (q p : ℕ) → next ≡ Some q → q ≡ p → cells_for next free p ≡ free
-cells_for-mover next free q p e m = rw (e, eq-eqb p q (sym m)) refl
-
 -- the free cell that stands behind so many others
 pub free_at : (h : List ℕ) (k n : ℕ) → k < 9 → is_in h k ≡ false → n ≡ length (filter (λ cell. not (is_in h cell)) (take k cells)) → slice_index (free_cells h) n ≡ k
 free_at h k n l free e =
@@ -93,7 +89,7 @@ after_first s t a at c e h x o =
     let small : a < 9 = next_small s.history a c in
     let marking : IsFirstMarking s.history a = (cells_of-push s.history a).0 e in
     record {
-      play = subst (λ (i : List ℕ). IsPlay tic_tac_toe_rules i) (sym h) (IsPlay-more tic_tac_toe_rules s.history a at.play c);
+      play = IsPlay-pushed tic_tac_toe_rules s.history t.history a at.play c h;
       crosses = x ∙ ap (λ (b : List Bool). set b a true) at.crosses ∙ sym (marks-push (cells_of 0 s.history) a small) ∙ ap marks (sym marking.crosses) ∙ ap (λ (i : List ℕ). marks (cells_of 0 i)) (sym h);
       noughts = o ∙ at.noughts ∙ ap marks (sym marking.noughts) ∙ ap (λ (i : List ℕ). marks (cells_of 1 i)) (sym h);
     }
@@ -103,7 +99,7 @@ after_second s t a at c e h x o =
     let small : a < 9 = next_small s.history a c in
     let marking : IsSecondMarking s.history a = (cells_of-push s.history a).1 e in
     record {
-      play = subst (λ (i : List ℕ). IsPlay tic_tac_toe_rules i) (sym h) (IsPlay-more tic_tac_toe_rules s.history a at.play c);
+      play = IsPlay-pushed tic_tac_toe_rules s.history t.history a at.play c h;
       crosses = x ∙ at.crosses ∙ ap marks (sym marking.crosses) ∙ ap (λ (i : List ℕ). marks (cells_of 0 i)) (sym h);
       noughts = o ∙ ap (λ (b : List Bool). set b a true) at.noughts ∙ sym (marks-push (cells_of 1 s.history) a small) ∙ ap marks (sym marking.noughts) ∙ ap (λ (i : List ℕ). marks (cells_of 1 i)) (sym h);
     }
@@ -116,7 +112,7 @@ marks-back xs a l none =
 
 -- neither player has marked the cell of the next move
 unmarked : (h : List ℕ) (a : ℕ) → Contains (next_of tic_tac_toe_rules h) a → (is_in (cells_of 0 h) a ≡ false) × (is_in (cells_of 1 h) a ≡ false)
-unmarked h a c = or_parts (is_in (cells_of 0 h) a) (is_in (cells_of 1 h) a) (sym (is_in-players h a) ∙ free_unmarked h a (next_free (next_player h) (free_cells h) a c))
+unmarked h a c = or_parts (is_in (cells_of 0 h) a) (is_in (cells_of 1 h) a) (sym (is_in-players h a) ∙ free_unmarked h a (next_free h a c))
 
 -- the last number of a play was legal
 pub last_legal : (h i : List ℕ) (a : ℕ) → IsPlay tic_tac_toe_rules h → h ≡ i ++ a ∷ [] → Contains (next_of tic_tac_toe_rules i) a

@@ -1,13 +1,15 @@
 -- Only who moved last can have made a line.
-use Rattle.std.proofs.Common.{◌≡◌, ℕ, ◌-◌, ◌%◌, Bool, true, false, ◌||◌, List, [], ◌∷◌, ◌++◌, length, None, Some, refl, ap, sym, ◌∙◌, arith, ◌==◌, if◌then◌else◌, ⊎_elim, length-append}
+use Rattle.std.proofs.Common.{◌≡◌, ℕ, ◌-◌, ◌%◌, Bool, false, ◌||◌, List, [], ◌∷◌, ◌++◌, length, refl, ap, sym, ◌∙◌, arith, ◌==◌, ⊎_elim, length-append}
 use Rattle.std.specs.List.{Contains}
-use Rattle.std.proofs.lemmas.Bool.{cases_eq, or_parts}
+use Rattle.std.proofs.lemmas.Bool.{cases_eq, cond_both, or_parts}
+use Rattle.spiel_api.specs.declared.place.Place.TheVariants.{End, Move}
 use Rattle.spiel_api.specs.Rules.{next_at, next_of}
 use Rattle.spiel_api.specs.Plays.{IsPlay}
 use Rattle.spiel_api.specs.Walks.{is_in}
+use Rattle.spiel_api.specs.Turns.{numbers_for}
+use Rattle.spiel_api.proofs.Members.{none_of_none, or_false}
 use Rattle.spiel_api.proofs.Inductions.{of_plays}
-use Rattle.spiel_board.specs.TicTacToe.{cells, has_three, has_line, is_over, free_cells, turn_of, cells_for, tic_tac_toe_rules}
-use Rattle.spiel_board.specs.TicTacToePlays.{or_false}
+use Rattle.spiel_board.specs.TicTacToe.{cells, has_three, has_line, is_over, free_cells, tic_tac_toe_rules}
 use Rattle.spiel_board.proofs.Boards.{cells_of-push}
 
 -- who moves next has no line
@@ -27,11 +29,9 @@ line_of_others h a none = ⊎_elim first second (cases_eq (length h % 2) 0)
 
 -- where there is a number, nobody has a line
 goes_on : (h : List ℕ) (a : ℕ) → Contains (next_of tic_tac_toe_rules h) a → (has_line 0 h ≡ false) × (has_line 1 h ≡ false)
-goes_on h a c = by (is_over h) refl c
-  where
-    by : (b : Bool) → is_over h ≡ b → Contains (next_at (turn_of (if b then None else Some (length h % 2))) (cells_for (if b then None else Some (length h % 2)) (free_cells h))) a → (has_line 0 h ≡ false) × (has_line 1 h ≡ false)
-    by true e c = absurd (omega (arith, c.1))
-    by false e c = or_parts (has_line 0 h) (has_line 1 h) (or_parts (has_line 0 h || has_line 1 h) (length h == 9) e).0
+goes_on h a c =
+    let on : is_over h ≡ false = cond_both (is_over h) End (Move (length h % 2)) (λ place. Contains (next_at place (numbers_for place (free_cells h))) a → is_over h ≡ false) (λ e c. none_of_none a c) (λ e c. e) c in
+    or_parts (has_line 0 h) (has_line 1 h) (or_parts (has_line 0 h || has_line 1 h) (length h == 9) on).0
 
 no_line_yet : has_line 0 [] ≡ false
 unfolding cells has_three

@@ -1,10 +1,9 @@
 -- Tic-tac-toe: two players mark the cells of a board of three by three in turn, and three cells in a line win.
 -- The cells are numbered by rows, from 0 to 8. A history is the list of cells in the order in which they were marked.
-use Rattle.std.specs.Prelude.{ℕ, zero, suc, ◌+◌, ◌-◌, ◌/◌, ◌%◌, ℤ, pos, negsuc, Bool, false, not, ◌||◌, List, [], ◌∷◌, ◌++◌, length, Option, Some, None, flat_map, codes, if◌then◌else◌, ◌==◌}
+use Rattle.std.specs.Prelude.{ℕ, zero, suc, ◌+◌, ◌-◌, ◌/◌, ◌%◌, ℤ, pos, negsuc, Bool, not, ◌||◌, List, [], ◌∷◌, ◌++◌, length, flat_map, codes, if◌then◌else◌, ◌==◌}
 use Rattle.std.specs.List.{filter, list_any, list_all}
-use Rattle.spiel_api.specs.declared.place.Place.{Place}
-use Rattle.spiel_api.specs.declared.place.Place.TheVariants.{End, Move}
 use Rattle.spiel_api.specs.Rules.{Rules}
+use Rattle.spiel_api.specs.Turns.{Turns, turn_of, turn_rules}
 use Rattle.spiel_api.specs.Walks.{is_in}
 
 -- the cells of the board
@@ -40,26 +39,6 @@ free_cells h = filter (λ cell. not (is_in h cell)) cells
 abbrev pub is_over : List ℕ → Bool
 is_over h = has_line 0 h || has_line 1 h || length h == 9
 
--- who marks the next cell: player 0 begins, and the players alternate until the play is over
-abbrev pub next_player : List ℕ → Option ℕ
-next_player h = if is_over h then None else Some (length h % 2)
-
--- whoever marks the next cell moves, and with nobody left the play ends
-abbrev pub turn_of : Option ℕ → Place
-turn_of None = End
-turn_of (Some p) = Move p
-
-abbrev pub tic_tac_toe_place : List ℕ → Place
-tic_tac_toe_place h = turn_of (next_player h)
-
--- these cells for the player who marks the next one
-abbrev pub cells_for : Option ℕ → List ℕ → ℕ → List ℕ
-cells_for None free p = []
-cells_for (Some q) free p = if p == q then free else []
-
-abbrev pub tic_tac_toe_legal : List ℕ → ℕ → List ℕ
-tic_tac_toe_legal h p = cells_for (next_player h) (free_cells h) p
-
 -- a space, and the cell as a digit
 abbrev pub move_text : ℕ → List ℕ
 move_text cell = 32 ∷ (48 + cell) ∷ []
@@ -81,16 +60,19 @@ tic_tac_toe_name h p cell = mark p ∷ codes "(" ++ (48 + cell / 3) ∷ codes ",
 abbrev pub tic_tac_toe_pay : List ℕ → ℕ → ℤ
 tic_tac_toe_pay h p = if has_line p h then pos 1 else if has_line (1 - p) h then negsuc 0 else pos 0
 
-abbrev pub tic_tac_toe_rules : Rules
-tic_tac_toe_rules = record {
+-- player 0 begins, and the players mark free cells in turn until the play is over
+abbrev pub tic_tac_toe_turns : Turns
+tic_tac_toe_turns = record {
   players = 2;
   unit = 1;
   cap = 1;
-  one_shot = false;
-  place = tic_tac_toe_place;
-  legal = tic_tac_toe_legal;
+  place = λ h. turn_of 2 (is_over h) h;
+  numbers = free_cells;
   weights = λ h. [];
   info = tic_tac_toe_info;
   name = tic_tac_toe_name;
   pay = tic_tac_toe_pay;
 }
+
+abbrev pub tic_tac_toe_rules : Rules
+tic_tac_toe_rules = turn_rules tic_tac_toe_turns

@@ -1,19 +1,21 @@
 -- What plays of tic-tac-toe are made of: the cells that are marked and those that are free.
-use Rattle.std.proofs.Common.{◌≡◌, ℕ, zero, suc, ◌+◌, ◌<◌, Bool, true, false, not, ◌||◌, List, [], ◌∷◌, ◌++◌, length, map, get_or, set, cond, Option, None, Some, refl, ap, sym, ◌∙◌, arith, ◌==◌, if◌then◌else◌, ⊎_elim, length-append}
+use Rattle.std.proofs.Common.{◌≡◌, ℕ, zero, suc, ◌+◌, ◌<◌, ◌≤◌, Bool, true, false, not, ◌||◌, List, [], ◌∷◌, ◌++◌, length, map, get_or, set, cond, refl, ap, sym, ◌∙◌, arith, ◌==◌, ⊎_elim, length-append}
 use Rattle.std.specs.Prelude.{nat_lt}
 use Rattle.std.specs.List.{All, Contains, sum_by}
 use Rattle.std.specs.List.Sorted.{IsStrictlyIncreasing}
-use Rattle.std.proofs.lemmas.Bool.{ltb-true, eq-eqb, ne_eqb, cases_eq, not-true}
+use Rattle.std.proofs.lemmas.Bool.{ltb-true, eq-eqb, ne_eqb, cases_eq, not-true, or_right}
 use Rattle.std.proofs.lemmas.List.{length-map, get_or-map, same_lists, length-set, get_or-set_same, get_or-set_other}
 use Rattle.std.proofs.lemmas.List.Elements.{All-nil, All-push, All-filter, All-contains, filter_passes}
 use Rattle.std.proofs.lemmas.List.Sums.{length-filter, sum_by-cons, sum_by-set}
-use Rattle.spiel_api.specs.Rules.{next_at, next_of}
+use Rattle.spiel_api.specs.Rules.{next_of}
 use Rattle.spiel_api.specs.Plays.{IsPlay}
 use Rattle.spiel_api.specs.Walks.{is_in}
 use Rattle.spiel_api.proofs.LawLemmas.{All-computed, IsStrictlyIncreasing-computed}
-use Rattle.spiel_board.specs.TicTacToe.{cells, free_cells, next_player, turn_of, cells_for, tic_tac_toe_legal, tic_tac_toe_rules}
+use Rattle.spiel_board.specs.TicTacToe.{cells, free_cells, tic_tac_toe_turns, tic_tac_toe_rules}
 use Rattle.spiel_board.specs.TicTacToeState.{marks}
 use Rattle.spiel_api.proofs.Inductions.{of_plays}
+use Rattle.spiel_api.proofs.Members.{is_in-push, or_false}
+use Rattle.spiel_api.proofs.TurnLaws.{next_numbers, for_numbers}
 
 pub length-cells : length cells ≡ 9
 unfolding cells
@@ -48,33 +50,12 @@ pub get_or-marks : (xs : List ℕ) (k : ℕ) (d : Bool) → k < 9 → get_or (ma
 get_or-marks xs k d l =
     get_or-map (λ cell. is_in xs cell) cells k 0 d (omega (arith, length-cells)) ∙ ap (is_in xs) (get_or-cells k 0 l)
 
--- one cell more
-pub is_in-push : (xs : List ℕ) (a c : ℕ) → is_in (xs ++ a ∷ []) c ≡ (is_in xs c || (a == c))
-is_in-push [] a c = by (a == c)
-  where
-    by : (b : Bool) → (b || false) ≡ (false || b)
-    by true = refl
-    by false = refl
-is_in-push (x ∷ xs) a c = by (x == c) (is_in-push xs a c)
-  where
-    by : (b : Bool) → is_in (xs ++ a ∷ []) c ≡ (is_in xs c || (a == c)) → (b || is_in (xs ++ a ∷ []) c) ≡ ((b || is_in xs c) || (a == c))
-    by true e = refl
-    by false e = e
-
-or_true : (b : Bool) → (b || true) ≡ true
-or_true true = refl
-or_true false = refl
-
-pub or_false : (b : Bool) → (b || false) ≡ b
-or_false true = refl
-or_false false = refl
-
 pub marks-push : (xs : List ℕ) (a : ℕ) → a < 9 → marks (xs ++ a ∷ []) ≡ set (marks xs) a true
 marks-push xs a l =
     same_lists (marks (xs ++ a ∷ [])) (set (marks xs) a true) (omega (arith, length-marks (xs ++ a ∷ []), length-marks xs, length-set (marks xs) a true)) each
   where
     same : (k : ℕ) (d : Bool) → k < 9 → k ≡ a → (is_in xs k || (a == k)) ≡ get_or (set (marks xs) a true) k d
-    same k d l e = rw (eq-eqb a k (sym e)) (or_true (is_in xs k) ∙ sym (rw e (get_or-set_same (marks xs) a true d (omega (arith, length-marks xs)))))
+    same k d l e = rw (eq-eqb a k (sym e)) (or_right (is_in xs k) true refl ∙ sym (rw e (get_or-set_same (marks xs) a true d (omega (arith, length-marks xs)))))
 
     other : (k : ℕ) (d : Bool) → k < 9 → (k ≡ a → ⊥) → (is_in xs k || (a == k)) ≡ get_or (set (marks xs) a true) k d
     other k d l ne = rw (ne_eqb a k (λ e. ne (sym e))) (or_false (is_in xs k) ∙ sym (get_or-marks xs k d l) ∙ sym (get_or-set_other (marks xs) a k true d ne))
@@ -112,19 +93,9 @@ length-free_more h a c =
     let one : free_count (get_or (marks h) a false) ≡ 1 = ap free_count unmarked in
     omega (arith, length-free h, length-free (h ++ a ∷ []), counted, one, ap (sum_by free_count) (marks-push h a small))
 
--- whoever moves marks a free cell
-pub next_free : (next : Option ℕ) (free : List ℕ) (a : ℕ) → Contains (next_at (turn_of next) (cells_for next free)) a → Contains free a
-next_free None free a c = absurd (omega (arith, c.1))
-next_free (Some q) free a c = rw (eq-eqb q q refl) at c
-
--- whoever has a cell to mark has a free one
-pub for_free : (next : Option ℕ) (free : List ℕ) (p a : ℕ) → Contains (cells_for next free p) a → Contains free a
-for_free None free p a c = absurd (omega (arith, c.1))
-for_free (Some q) free p a c = by (p == q) c
-  where
-    by : (b : Bool) → Contains (if b then free else []) a → Contains free a
-    by true c = c
-    by false c = absurd (omega (arith, c.1))
+-- whoever is next marks a free cell
+pub next_free : (h : List ℕ) (a : ℕ) → Contains (next_of tic_tac_toe_rules h) a → Contains (free_cells h) a
+next_free h a c = next_numbers (tic_tac_toe_turns.place h) (free_cells h) a c
 
 -- the cells that are free and those that are marked are nine
 all_free : length (free_cells []) + 0 ≡ 9
@@ -135,16 +106,19 @@ pub nine_cells : (h : List ℕ) → IsPlay tic_tac_toe_rules h → length (free_
 nine_cells = of_plays tic_tac_toe_rules (λ h. length (free_cells h) + length h ≡ 9) all_free more
   where
     more : (h : List ℕ) (a : ℕ) → length (free_cells h) + length h ≡ 9 → Contains (next_of tic_tac_toe_rules h) a → length (free_cells (h ++ a ∷ [])) + length (h ++ a ∷ []) ≡ 9
-    more h a e c = omega (arith, e, length-free_more h a (next_free (next_player h) (free_cells h) a c), length-append h (a ∷ []))
+    more h a e c = omega (arith, e, length-free_more h a (next_free h a c), length-append h (a ∷ []))
+
+pub nine_moves : (h : List ℕ) → IsPlay tic_tac_toe_rules h → length h ≤ 9
+nine_moves h play = omega (arith, nine_cells h play)
 
 -- each number of a play is a cell
 pub play_small : (h : List ℕ) → IsPlay tic_tac_toe_rules h → All (λ a. a < 9) h
 play_small = of_plays tic_tac_toe_rules (All (λ a. a < 9)) (All-nil (λ a. a < 9))
-    (λ h a small c. All-push (λ a. a < 9) h a small (All-contains (λ a. a < 9) (free_cells h) a (free_small h) (next_free (next_player h) (free_cells h) a c)))
+    (λ h a small c. All-push (λ a. a < 9) h a small (All-contains (λ a. a < 9) (free_cells h) a (free_small h) (next_free h a c)))
 
 -- a legal number is a cell
-pub legal_small : (h : List ℕ) (p a : ℕ) → Contains (tic_tac_toe_legal h p) a → a < 9
-legal_small h p a c = All-contains (λ a. a < 9) (free_cells h) a (free_small h) (for_free (next_player h) (free_cells h) p a c)
+pub legal_small : (h : List ℕ) (p a : ℕ) → Contains (tic_tac_toe_rules.legal h p) a → a < 9
+legal_small h p a c = All-contains (λ a. a < 9) (free_cells h) a (free_small h) (for_numbers (tic_tac_toe_turns.place h) (free_cells h) p a c)
 
 pub next_small : (h : List ℕ) (a : ℕ) → Contains (next_of tic_tac_toe_rules h) a → a < 9
-next_small h a c = All-contains (λ a. a < 9) (free_cells h) a (free_small h) (next_free (next_player h) (free_cells h) a c)
+next_small h a c = All-contains (λ a. a < 9) (free_cells h) a (free_small h) (next_free h a c)

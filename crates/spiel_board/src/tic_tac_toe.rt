@@ -1,6 +1,6 @@
-//! Tic-tac-toe.
+//! Tic-tac-toe: its rules in words, and its state.
 ghost use Rattle.std.specs.Prelude.{◌≡◌, ◌<◌, length, slice_index, slice_index_or, false};
-ghost use Rattle.spiel_board.specs.TicTacToe.{has_three, has_line, is_over, next_player, free_cells, tic_tac_toe_rules};
+ghost use Rattle.spiel_board.specs.TicTacToe.{has_three, has_line, is_over, free_cells, tic_tac_toe_rules};
 ghost use Rattle.spiel_board.specs.TicTacToeState.{IsTicTacToeAt};
 
 use spiel_api::{Game, Place};
@@ -72,18 +72,6 @@ impl TicTacToeState {
         self.has_line(last) || count == 9
     }
 
-    /// Who marks the next cell, if the play goes on.
-    fn next_player(&self) -> Option<u32>
-        requires { IsTicTacToeAt self.now }
-        ensures { result ≡ next_player self.now.history }
-    {
-        if self.is_over() {
-            None
-        } else {
-            Some((self.history.items().len() % 2) as u32)
-        }
-    }
-
     /// The empty cell with so many empty cells before it.
     fn free_cell(&self, index: u32) -> u32
         requires at { IsTicTacToeAt self.now }
@@ -150,17 +138,18 @@ impl Game for TicTacToe {
     }
 
     fn place(&self, state: &TicTacToeState) -> Place {
-        match state.next_player() {
-            None => Place::End,
-            Some(player) => Place::Move(player),
+        if state.is_over() {
+            Place::End
+        } else {
+            Place::Move((state.history.items().len() % 2) as u32)
         }
     }
 
+    #[tactic(auto, using(spiel_api::proofs::TurnLaws::turn_steps, crate::specs::TicTacToePlays::nine_cells, crate::specs::TicTacToePlays::nine_moves))]
     fn legal_count(&self, state: &TicTacToeState, player: u32) -> u32 {
-        match state.next_player() {
-            None => 0,
-            Some(mover) if mover == player => 9 - state.history.items().len() as u32,
-            Some(_) => 0,
+        match self.place(state) {
+            Place::Move(mover) if mover == player => 9 - state.history.items().len() as u32,
+            Place::Move(_) | Place::End | Place::Chance | Place::Joint(_) => 0,
         }
     }
 
@@ -240,10 +229,8 @@ impl Game for TicTacToe {
     }
 
     fn copy(&self, alloc: Global, state: &TicTacToeState) -> Result<TicTacToeState, NoMemory> {
-        let mut history = List::new(alloc);
-        history.extend(state.history.items())?;
         Ok(TicTacToeState {
-            history,
+            history: state.history.copy(alloc)?,
             crosses: state.crosses,
             noughts: state.noughts,
         })

@@ -1,14 +1,14 @@
 -- The place of a play of liar's dice, and the numbers there.
-use Rattle.std.proofs.Common.{◌≡◌, ℕ, ◌+◌, ◌-◌, ◌*◌, ◌%◌, ◌<◌, ◌≤◌, Bool, true, false, List, [], length, Option, None, Some, if◌then◌else◌, ◌==◌, refl, ap, sym, ◌∙◌, arith}
-use Rattle.std.specs.Prelude.{slice_get, slice_index}
-use Rattle.std.proofs.lemmas.Bool.{ltb-false, eq-eqb, eqb-true}
+use Rattle.std.proofs.Common.{◌≡◌, ℕ, ◌-◌, ◌*◌, ◌%◌, ◌≤◌, Bool, true, false, List, length, Option, None, Some, if◌then◌else◌, ◌==◌, refl, ap, sym, ◌∙◌, arith}
+use Rattle.std.specs.Prelude.{slice_get}
+use Rattle.std.proofs.lemmas.Bool.{ltb-false, eqb-true}
 use Rattle.spiel_api.specs.declared.place.Place.{Place}
-use Rattle.spiel_api.specs.declared.place.Place.TheVariants.{End, Chance, Move, Joint}
+use Rattle.spiel_api.specs.declared.place.Place.TheVariants.{End, Chance, Move}
 use Rattle.spiel_api.specs.Plays.{IsPlay}
 use Rattle.spiel_api.specs.Place.{HasInfo}
-use Rattle.spiel_dice.specs.LiarsDice.{between, liar, is_rolling, calls_of, last_of, turn_after, numbers_for, liars_dice_place, liars_dice_rules}
+use Rattle.spiel_dice.specs.LiarsDice.{liar, is_rolling, calls_of, last_of, turn_after, liars_dice_place, liars_dice_rules}
 use Rattle.spiel_dice.specs.LiarsDiceState.{IsWithinRange}
-use Rattle.spiel_dice.specs.LiarsDicePlays.{length-between, get_or-between, said, play_calls}
+use Rattle.spiel_dice.specs.LiarsDicePlays.{said, play_calls}
 
 -- the last call is `liar` at the most
 pub last_small : (dice sides : ℕ) → IsWithinRange dice sides → (h : List ℕ) → IsPlay (liars_dice_rules dice sides) h → (calls : List ℕ) (call : ℕ) → calls ≡ calls_of dice h → Some call ≡ slice_get calls (length calls - 1) → call ≤ liar dice sides
@@ -45,27 +45,3 @@ called_at_end dice sides range h play end = (play_calls dice sides range h play)
     by : (b : Bool) → (if b then Chance else turn_after (liar dice sides) (last_of (calls_of dice h)) (length (calls_of dice h))) ≡ End → last_of (calls_of dice h) ≡ Some (liar dice sides)
     by true f = cc
     by false f = after (last_of (calls_of dice h)) f
-
--- how many numbers there are at a roll, and for whoever moves
-pub count_at_roll : (place : Place) (numbers : List ℕ) (p low high : ℕ) → Chance ≡ place → between low high ≡ numbers → high - low ≡ length (numbers_for place numbers p)
-count_at_roll place numbers p low high e f = sym (length-between low high) ∙ ap length f ∙ ap (λ (at : Place). length (numbers_for at numbers p)) e
-
-pub count_of_mover : (place : Place) (numbers : List ℕ) (p q low high : ℕ) → Move q ≡ place → q ≡ p → between low high ≡ numbers → high - low ≡ length (numbers_for place numbers p)
-count_of_mover place numbers p q low high e same f =
-    let mine : numbers_for (Move q) numbers p ≡ numbers = rw (eq-eqb p q (sym same)) refl in
-    sym (length-between low high) ∙ ap length f ∙ ap length (sym mine) ∙ ap (λ (at : Place). length (numbers_for at numbers p)) e
-
--- a number of somebody who has so many
-pub number_at : (place : Place) (numbers : List ℕ) (p index low high : ℕ) → between low high ≡ numbers → index < length (numbers_for place numbers p) → (index < high - low) × (low + index ≡ slice_index (numbers_for place numbers p) index)
-number_at End numbers p index low high f l = absurd (omega arith)
-number_at Chance numbers p index low high f l =
-    let within : index < high - low = omega (arith, l, length-between low high, ap length f) in
-    (within, sym (get_or-between low high index 0 within) ∙ ap (λ (xs : List ℕ). slice_index xs index) f)
-number_at (Move q) numbers p index low high f l = by (p == q) l
-  where
-    by : (b : Bool) → index < length (if b then numbers else []) → (index < high - low) × (low + index ≡ slice_index (if b then numbers else []) index)
-    by true l =
-        let within : index < high - low = omega (arith, l, length-between low high, ap length f) in
-        (within, sym (get_or-between low high index 0 within) ∙ ap (λ (xs : List ℕ). slice_index xs index) f)
-    by false l = absurd (omega arith)
-number_at (Joint q) numbers p index low high f l = absurd (omega arith)

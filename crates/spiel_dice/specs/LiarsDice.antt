@@ -1,12 +1,14 @@
 -- Liar's dice of two players: each rolls some dice that the other doesn't see, and then they bid on all dice in turn.
 -- A history is the rolls of player 0, those of player 1, and then the calls: bids, each higher than the one before, and at the end `liar`.
 -- A roll is the face less 1. A bid says that so many dice show a face or the highest face, which is wild.
-use Rattle.std.specs.Prelude.{ℕ, ◌+◌, ◌-◌, ◌*◌, ◌/◌, ◌%◌, ℤ, pos, negsuc, Bool, false, not, ◌||◌, List, [], ◌++◌, length, take, drop, map, replicate, Option, Some, None, flat_map, codes, count_by, slice_get, slice_index, if◌then◌else◌, ◌==◌, nat_lt, nat_le}
-use Rattle.std.specs.List.{range_with_len, join_with_byte}
+use Rattle.std.specs.Prelude.{ℕ, ◌+◌, ◌-◌, ◌*◌, ◌/◌, ◌%◌, ℤ, pos, negsuc, Bool, not, ◌||◌, List, [], ◌++◌, length, take, drop, replicate, Option, Some, None, flat_map, codes, count_by, slice_get, slice_index, if◌then◌else◌, ◌==◌, nat_lt, nat_le}
+use Rattle.std.specs.List.{range_with_len}
 use Rattle.std.specs.Fmt.{decimal}
 use Rattle.spiel_api.specs.declared.place.Place.{Place}
-use Rattle.spiel_api.specs.declared.place.Place.TheVariants.{End, Chance, Move, Joint}
+use Rattle.spiel_api.specs.declared.place.Place.TheVariants.{End, Chance, Move}
+use Rattle.spiel_frac.specs.Listed.{listed}
 use Rattle.spiel_api.specs.Rules.{Rules}
+use Rattle.spiel_api.specs.Turns.{Turns, turn_rules}
 
 -- the numbers from one on, below another
 abbrev pub between : ℕ → ℕ → List ℕ
@@ -53,16 +55,6 @@ abbrev pub numbers_after : ℕ → ℕ → List ℕ → List ℕ
 numbers_after dice sides h =
     if is_rolling dice h then between 0 sides else calls_after (liar dice sides) (last_of (calls_of dice h))
 
--- these numbers for whoever is next, and for all where chance is
-abbrev pub numbers_for : Place → List ℕ → ℕ → List ℕ
-numbers_for End numbers p = []
-numbers_for Chance numbers p = numbers
-numbers_for (Move q) numbers p = if p == q then numbers else []
-numbers_for (Joint q) numbers p = []
-
-abbrev pub liars_dice_legal : ℕ → ℕ → List ℕ → ℕ → List ℕ
-liars_dice_legal dice sides h p = numbers_for (liars_dice_place dice sides h) (numbers_after dice sides h) p
-
 -- each face is as likely as another
 abbrev pub liars_dice_weights : ℕ → ℕ → List ℕ → List ℕ
 liars_dice_weights dice sides h = if is_rolling dice h then replicate sides 1 else []
@@ -70,10 +62,6 @@ liars_dice_weights dice sides h = if is_rolling dice h then replicate sides 1 el
 -- the faces of some dice in rising order: each face as often as it was rolled
 abbrev pub faces_of : ℕ → List ℕ → List ℕ
 faces_of sides dice = flat_map (λ face. replicate (count_by (λ die. die == face) dice) (face + 1)) (between 0 sides)
-
--- numbers with a byte between each two
-abbrev pub listed : ℕ → List ℕ → List ℕ
-listed separator numbers = join_with_byte separator (map decimal numbers)
 
 -- the player's own faces with commas between, a colon, and the bids so far with spaces between, as `4:0 7`
 abbrev pub liars_dice_info : ℕ → ℕ → List ℕ → ℕ → List ℕ
@@ -115,16 +103,18 @@ abbrev pub liars_dice_pay : ℕ → ℕ → List ℕ → ℕ → ℤ
 liars_dice_pay dice sides h p =
     if p == length (calls_of dice h) % 2 then gain (is_true dice sides h) else gain (not (is_true dice sides h))
 
-abbrev pub liars_dice_rules : ℕ → ℕ → Rules
-liars_dice_rules dice sides = record {
+abbrev pub liars_dice_turns : ℕ → ℕ → Turns
+liars_dice_turns dice sides = record {
   players = 2;
   unit = 1;
   cap = 1;
-  one_shot = false;
   place = liars_dice_place dice sides;
-  legal = liars_dice_legal dice sides;
+  numbers = numbers_after dice sides;
   weights = liars_dice_weights dice sides;
   info = liars_dice_info dice sides;
   name = liars_dice_name dice sides;
   pay = liars_dice_pay dice sides;
 }
+
+abbrev pub liars_dice_rules : ℕ → ℕ → Rules
+liars_dice_rules dice sides = turn_rules (liars_dice_turns dice sides)

@@ -1,45 +1,27 @@
 -- What plays of liar's dice are made of.
-use Rattle.std.proofs.Common.{◌≡◌, ℕ, ◌+◌, ◌-◌, ◌*◌, ◌%◌, ◌<◌, ◌≤◌, Bool, true, false, List, [], ◌∷◌, ◌++◌, length, get_or, replicate, Option, None, Some, if◌then◌else◌, ◌==◌, refl, ap, sym, subst, ◌∙◌, arith, length-append}
+use Rattle.std.proofs.Common.{◌≡◌, ℕ, ◌+◌, ◌-◌, ◌*◌, ◌%◌, ◌<◌, ◌≤◌, Bool, true, false, List, [], ◌∷◌, ◌++◌, length, replicate, Option, None, Some, if◌then◌else◌, ◌==◌, refl, ap, sym, subst, ◌∙◌, arith, length-append}
 use Rattle.std.specs.Prelude.{count_by, flat_map}
 use Rattle.std.specs.List.{All, Contains, range_with_len}
-use Rattle.std.specs.List.Sorted.{IsStrictlyIncreasing}
-use Rattle.std.proofs.lemmas.Bool.{ltb-true, ltb-false, eq-eqb, eqb-false}
-use Rattle.std.proofs.lemmas.List.{append-nil, drop_all, drop-append-le, length-drop, get_or_push, map-id}
+use Rattle.std.proofs.lemmas.Bool.{ltb-true, ltb-false, eqb-false}
+use Rattle.std.proofs.lemmas.List.{append-nil, length-replicate, drop_all, drop-append-le, length-drop, get_or_push, map-id}
 use Rattle.std.proofs.lemmas.List.Concat.{flat_map-append}
 use Rattle.std.proofs.lemmas.List.Elements.{All-nil, All-push}
-use Rattle.std.proofs.lemmas.List.FromFn.{length-range_with_len, get_or-range_with_len, map-range_with_len_more}
+use Rattle.std.proofs.lemmas.List.Folds.{sum_by-replicate}
+use Rattle.std.proofs.lemmas.List.FromFn.{length-range_with_len, map-range_with_len_more}
 use Rattle.std.proofs.lemmas.Option.{slice_get-get_or, slice_get_within}
 use Rattle.std.proofs.Math.Nat.{mul-le-mul}
-use Rattle.spiel_api.specs.declared.place.Place.{Place}
-use Rattle.spiel_api.specs.declared.place.Place.TheVariants.{End, Chance, Move, Joint}
-use Rattle.spiel_api.specs.Rules.{next_at, next_of}
+use Rattle.spiel_api.specs.declared.place.Place.TheVariants.{End, Chance, Move}
+use Rattle.spiel_api.specs.Rules.{next_of}
 use Rattle.spiel_api.specs.Plays.{IsPlay}
-use Rattle.spiel_dice.specs.LiarsDice.{between, liar, is_rolling, calls_of, last_of, turn_after, calls_after, numbers_after, numbers_for, faces_of, liars_dice_place, liars_dice_legal, liars_dice_weights, liars_dice_rules}
+use Rattle.spiel_dice.specs.LiarsDice.{between, liar, is_rolling, calls_of, last_of, turn_after, calls_after, numbers_after, faces_of, liars_dice_place, liars_dice_weights, liars_dice_rules}
 use Rattle.spiel_dice.specs.LiarsDiceState.{IsWithinRange}
 use Rattle.spiel_api.proofs.Inductions.{of_plays}
+use Rattle.spiel_api.proofs.NodeLaws.{AreChoices-range, range_within}
+use Rattle.spiel_api.proofs.TurnLaws.{IsTurn, for_numbers, next_numbers}
 
--- numbers between two
-pub length-between : (low high : ℕ) → length (between low high) ≡ high - low
-length-between low high = length-range_with_len low (high - low)
-
-pub get_or-between : (low high k d : ℕ) → k < high - low → get_or (between low high) k d ≡ low + k
-get_or-between low high k d l = get_or-range_with_len low (high - low) k d l
-
-pub All-between : (P : ℕ → Type 0) (low high : ℕ) → ((a : ℕ) → low ≤ a → a < high → P a) → All P (between low high)
-All-between P low high each k d l =
-    let m : k < high - low = omega (arith, length-between low high) in
-    subst P (sym (get_or-between low high k d m)) (each (low + k) (omega arith) (omega arith))
-
+-- a number between two
 pub between_within : (low high a : ℕ) → Contains (between low high) a → (low ≤ a) × (a < high)
-between_within low high a c =
-    let m : c.0 < high - low = omega (arith, c.1, length-between low high) in
-    let e = get_or-between low high c.0 a m in
-    (omega (arith, e, c.2), omega (arith, e, c.2))
-
-pub between_rises : (low high : ℕ) → IsStrictlyIncreasing (between low high)
-between_rises low high k l =
-    let m : k + 1 < high - low = omega (arith, l, length-between low high) in
-    omega (arith, get_or-between low high k 0 (omega arith), get_or-between low high (k + 1) 0 m)
+between_within low high a c = let within = range_within low (high - low) a c in (within.0, omega (arith, within))
 
 -- the last of some numbers, when one more comes
 pub last_of-push : (calls : List ℕ) (a : ℕ) → last_of (calls ++ a ∷ []) ≡ Some a
@@ -87,23 +69,6 @@ AreCalls-push top calls a before c = by (last_of calls) refl c
           doubted = λ f. omega (arith, long, some);
         }
 
--- whoever is next has the numbers
-pub next_numbers : (place : Place) (numbers : List ℕ) (a : ℕ) → Contains (next_at place (numbers_for place numbers)) a → Contains numbers a
-next_numbers End numbers a c = absurd (omega (arith, c.1))
-next_numbers Chance numbers a c = c
-next_numbers (Move q) numbers a c = rw (eq-eqb q q refl) at c
-next_numbers (Joint q) numbers a c = absurd (omega (arith, c.1))
-
-pub for_numbers : (place : Place) (numbers : List ℕ) (p a : ℕ) → Contains (numbers_for place numbers p) a → Contains numbers a
-for_numbers End numbers p a c = absurd (omega (arith, c.1))
-for_numbers Chance numbers p a c = c
-for_numbers (Move q) numbers p a c = by (p == q) c
-  where
-    by : (b : Bool) → Contains (if b then numbers else []) a → Contains numbers a
-    by true c = c
-    by false c = absurd (omega (arith, c.1))
-for_numbers (Joint q) numbers p a c = absurd (omega (arith, c.1))
-
 -- the dice of one face more
 pub faces_of-more : (k : ℕ) (dice : List ℕ) → faces_of (k + 1) dice ≡ faces_of k dice ++ replicate (count_by (λ die. die == k) dice) (k + 1)
 faces_of-more k dice =
@@ -137,7 +102,7 @@ module _ (dice sides : ℕ) (range : IsWithinRange dice sides) where
       by true c = omega (arith, range.sides_high, between_within 0 sides a c)
       by false c = after (last_of (calls_of dice h)) c
 
-  pub legal_small : (h : List ℕ) (p a : ℕ) → Contains (liars_dice_legal dice sides h p) a → a ≤ 200
+  pub legal_small : (h : List ℕ) (p a : ℕ) → Contains ((liars_dice_rules dice sides).legal h p) a → a ≤ 200
   legal_small h p a c = numbers_small h a (for_numbers (liars_dice_place dice sides h) (numbers_after dice sides h) p a c)
 
   pub play_small : (h : List ℕ) → IsPlay (liars_dice_rules dice sides) h → All (λ a. a ≤ 200) h
@@ -164,11 +129,9 @@ module _ (dice sides : ℕ) (range : IsWithinRange dice sides) where
       let calls = play_calls h play in
       omega (arith, calls.few, calls.low, liar_high, length-drop (2 * dice) h, range.dice_high)
 
-  -- what holds at a roll, where a player moves who has a number, and at the end holds at every play
-  pub everywhere : (P : Place → List ℕ → List ℕ → Type 0) (h : List ℕ) → IsPlay (liars_dice_rules dice sides) h → P Chance (between 0 sides) (replicate sides 1)
-      → ((q low high : ℕ) → q < 2 → low < high → high ≤ 201 → P (Move q) (between low high) []) → ((numbers : List ℕ) → P End numbers [])
-      → P (liars_dice_place dice sides h) (numbers_after dice sides h) (liars_dice_weights dice sides h)
-  everywhere P h play roll turn over = by (is_rolling dice h)
+  -- chance rolls, a player calls, or the play is over
+  pub turns : (h : List ℕ) → IsPlay (liars_dice_rules dice sides) h → IsTurn 2 (liars_dice_place dice sides h) (numbers_after dice sides h) (liars_dice_weights dice sides h)
+  turns h play = by (is_rolling dice h)
     where
       count : ℕ
       count = length (calls_of dice h)
@@ -176,17 +139,27 @@ module _ (dice sides : ℕ) (range : IsWithinRange dice sides) where
       top : ℕ
       top = liar dice sides
 
-      call_by : (b : Bool) (call : ℕ) → (call == top) ≡ b → last_of (calls_of dice h) ≡ Some call → P (if b then End else Move (count % 2)) (between (call + 1) (top + 1)) []
-      call_by true call e l = over (between (call + 1) (top + 1))
+      turn : (low high : ℕ) → low < high → high ≤ 201 → IsTurn 2 (Move (count % 2)) (between low high) []
+      turn low high some few = (omega arith, AreChoices-range low (high - low) (omega arith) (omega arith))
+
+      call_by : (b : Bool) (call : ℕ) → (call == top) ≡ b → last_of (calls_of dice h) ≡ Some call → IsTurn 2 (if b then End else Move (count % 2)) (between (call + 1) (top + 1)) []
+      call_by true call e l = tt
       call_by false call e l =
           let low = (play_calls h play).low in
           let other = eqb-false call top e in
-          turn (count % 2) (call + 1) (top + 1) (omega arith) (omega (arith, low, ap said l, other)) (omega (arith, liar_high))
+          turn (call + 1) (top + 1) (omega (arith, low, ap said l, other)) (omega (arith, liar_high))
 
-      after : (o : Option ℕ) → last_of (calls_of dice h) ≡ o → P (turn_after top o count) (calls_after top o) []
-      after None l = turn (count % 2) 0 top (omega arith) (omega (arith, liar_low)) (omega (arith, liar_high))
+      after : (o : Option ℕ) → last_of (calls_of dice h) ≡ o → IsTurn 2 (turn_after top o count) (calls_after top o) []
+      after None l = turn 0 top (omega (arith, liar_low)) (omega (arith, liar_high))
       after (Some call) l = call_by (call == top) call refl l
 
-      by : (b : Bool) → P (if b then Chance else turn_after top (last_of (calls_of dice h)) count) (if b then between 0 sides else calls_after top (last_of (calls_of dice h))) (if b then replicate sides 1 else [])
-      by true = roll
+      by : (b : Bool) → IsTurn 2 (if b then Chance else turn_after top (last_of (calls_of dice h)) count) (if b then between 0 sides else calls_after top (last_of (calls_of dice h))) (if b then replicate sides 1 else [])
+      by true = (
+        AreChoices-range 0 (sides - 0) (omega (arith, range.sides_low)) (omega (arith, range.sides_high)),
+        record {
+          each = omega (arith, length-replicate {A = ℕ} sides 1, length-range_with_len 0 (sides - 0));
+          low = omega (arith, sum_by-replicate (λ x. x) sides 1, range.sides_low);
+          high = omega (arith, sum_by-replicate (λ x. x) sides 1, range.sides_high);
+        },
+      )
       by false = after (last_of (calls_of dice h)) refl

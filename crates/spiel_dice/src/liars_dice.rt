@@ -1,12 +1,13 @@
-//! Liar's dice of two players.
+//! Liar's dice of two players: its rules in words, and its state.
 ghost use Rattle.std.specs.Prelude.{◌≡◌, ◌<◌, ◌≤◌, ◌*◌, ◌+◌, ◌++◌, ◌∷◌, ◌==◌, ◌↔◌, length, replicate, codes, count_by, IsOk, IfOk, OnOk, if◌then◌else◌, Some};
 ghost use Rattle.std.specs.Fmt.{decimal};
 ghost use Rattle.spiel_frac.specs.Adding.{Adds};
-ghost use Rattle.spiel_dice.specs.LiarsDice.{between, liar, is_rolling, all_dice, dice_of, calls_of, numbers_after, faces_of, listed, call_name, shown, liars_dice_rules};
+ghost use Rattle.spiel_frac.specs.Listed.{listed};
+ghost use Rattle.spiel_dice.specs.LiarsDice.{between, liar, is_rolling, all_dice, dice_of, calls_of, numbers_after, faces_of, call_name, shown, liars_dice_rules};
 ghost use Rattle.spiel_dice.specs.LiarsDiceState.{IsWithinRange, IsLiarsDiceAt};
 
 use spiel_api::{Game, Place};
-use spiel_frac::{List, NoMemory, Text, write_number};
+use spiel_frac::{List, NoMemory, Text, write_number, write_numbers};
 use std::alloc::Global;
 use std::error::Error;
 use std::fmt;
@@ -69,12 +70,21 @@ impl LiarsDice {
         ensures rules { IfOk result (λ game. ⟦<LiarsDice as Game>⟧.rules game ≡ liars_dice_rules numdice sides) }
     {
         if (1..=5).contains(&numdice) && (2..=20).contains(&sides) {
-            Ok(LiarsDice {
-                dice: numdice,
-                sides,
-            })
+            Ok(LiarsDice::of(numdice, sides))
         } else {
             Err(BadDice)
+        }
+    }
+
+    /// The same game, of 1 to 5 dice with 2 to 20 sides.
+    pub fn of(numdice: u32, sides: u32) -> LiarsDice
+        requires { IsWithinRange numdice sides }
+        ensures game { ⟦<LiarsDice as Game>⟧.is_game result }
+        ensures rules { ⟦<LiarsDice as Game>⟧.rules result ≡ liars_dice_rules numdice sides }
+    {
+        LiarsDice {
+            dice: numdice,
+            sides,
         }
     }
 
@@ -177,7 +187,7 @@ impl LiarsDice {
         ensures { Adds result out.old out.new (listed 44 (faces_of self.now.sides dice.now)) }
     {
         let faces = self.faces(alloc, dice)?;
-        push_listed(b',', faces.items(), out)
+        write_numbers(faces.items(), b',', out)
     }
 
     /// Adds the name of a call.
@@ -213,28 +223,6 @@ fn add_face(roll: u32, dice: &[u32], faces: &mut List<u32>) -> Result<(), NoMemo
         if *die == roll {
             faces.push(roll + 1)?;
         }
-    }
-    Ok(())
-}
-
-/// Adds a number behind the separator, unless it is the first.
-fn push_next(separator: u8, is_first: bool, number: u32, out: &mut Text) -> Result<(), NoMemory>
-    ensures { Adds result out.old out.new (if is_first then decimal number else separator ∷ decimal number) }
-{
-    if is_first {
-        write_number(number, out)
-    } else {
-        out.push(&[separator])?;
-        write_number(number, out)
-    }
-}
-
-/// Adds the numbers with the separator between each two.
-fn push_listed(separator: u8, numbers: &[u32], out: &mut Text) -> Result<(), NoMemory>
-    ensures { Adds result out.old out.new (listed separator numbers.now) }
-{
-    for (index, number) in numbers.iter().enumerate() {
-        push_next(separator, index == 0, *number, out)?;
     }
     Ok(())
 }
@@ -295,6 +283,7 @@ impl Game for LiarsDice {
         }
     }
 
+    #[tactic(auto, using(spiel_api::proofs::TurnLaws::turn_steps))]
     fn legal_count(&self, state: &LiarsDiceState, player: u32) -> u32 {
         let choices = self.choices(state);
         match self.place(state) {
@@ -304,6 +293,7 @@ impl Game for LiarsDice {
         }
     }
 
+    #[tactic(auto, using(spiel_api::proofs::TurnLaws::turn_steps))]
     fn legal_at(&self, state: &LiarsDiceState, _player: u32, index: u32) -> u32 {
         self.choices(state).low + index
     }
@@ -333,7 +323,7 @@ impl Game for LiarsDice {
     ) -> Result<(), NoMemory> {
         self.push_faces(alloc, self.dice_of(state, player), out)?;
         out.push(b":")?;
-        push_listed(b' ', self.calls(state), out)
+        write_numbers(self.calls(state), b' ', out)
     }
 
     fn action_name(
@@ -351,6 +341,7 @@ impl Game for LiarsDice {
         }
     }
 
+    #[tactic(auto, using(spiel_api::proofs::PlayLemmas::play_steps))]
     fn apply(
         &self,
         _alloc: Global,
@@ -366,8 +357,8 @@ impl Game for LiarsDice {
     }
 
     fn copy(&self, alloc: Global, state: &LiarsDiceState) -> Result<LiarsDiceState, NoMemory> {
-        let mut history = List::new(alloc);
-        history.extend(state.history.items())?;
-        Ok(LiarsDiceState { history })
+        Ok(LiarsDiceState {
+            history: state.history.copy(alloc)?,
+        })
     }
 }

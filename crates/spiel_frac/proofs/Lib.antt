@@ -1,3 +1,4 @@
+pub mod AddedTexts
 pub mod CommonMultiples
 pub mod Cuts
 pub mod DecimalNumbers

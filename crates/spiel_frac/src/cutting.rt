@@ -1,3 +1,4 @@
+//! A text cut at the first of some byte: what stands before it, and what behind it.
 ghost use Rattle.std.specs.Prelude.{◌≡◌, ◌<◌, ◌==◌, length, position, IfSome, MatchOption, None, Some};
 ghost use Rattle.spiel_frac.specs.Cuts.{cut};
 

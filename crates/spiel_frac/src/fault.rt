@@ -1,3 +1,4 @@
+//! Why a text isn't read as a fraction, and what each fault says.
 ghost use Rattle.std.specs.Prelude.{Some};
 ghost use Rattle.spiel_frac.specs.Faults.{fault_text};
 

@@ -1,3 +1,4 @@
+//! Exact fractions in lowest terms, and their texts.
 ghost use Rattle.std.specs.Prelude.{◌≡◌, ◌≢◌, ℕ, ◌/◌, ◌<◌, ◌≤◌, ◌++◌, ℤ, pos, Some, unsigned_abs, IfSome, IfNone, IfOk, string_bytes};
 ghost use Rattle.std.specs.Int.{IsGcd};
 ghost use Rattle.spiel_frac.specs.Adding.{Adds};

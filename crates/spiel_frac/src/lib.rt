@@ -17,10 +17,11 @@ mod reading;
 mod text;
 
 pub use cutting::cut;
+pub use digits::{all_digits, short_value};
 pub use fault::BadNumber;
 pub use frac::{Frac, write_frac, write_ratio};
 pub use list::List;
-pub use listing::{are_numbers, read_numbers};
+pub use listing::{are_numbers, read_numbers, write_numbers};
 pub use memory::NoMemory;
 pub use multiples::lcm;
 pub use numbers::{read_number, write_number};

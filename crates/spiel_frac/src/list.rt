@@ -1,4 +1,5 @@
-ghost use Rattle.std.specs.Prelude.{◌≡◌, [], ◌∷◌, ◌++◌, OnOk, OnErr, MatchOption, List};
+//! A list that grows at its end, which contracts see as its items.
+ghost use Rattle.std.specs.Prelude.{◌≡◌, [], ◌∷◌, ◌++◌, IfOk, OnOk, OnErr, MatchOption, List};
 
 use crate::memory::NoMemory;
 use std::alloc::Global;
@@ -78,6 +79,15 @@ impl<T: Drop> List<T> {
 }
 
 impl<T: Copy> List<T> {
+    /// A second list of the same items.
+    pub fn copy(&self, alloc: Global) -> Result<List<T>, NoMemory>
+        ensures { IfOk result (λ list. list ≡ self.now) }
+    {
+        let mut list = List::new(alloc);
+        list.extend(self.items())?;
+        Ok(list)
+    }
+
     /// Adds these items at the end. After `NoMemory`, when there is no room for them all, the list
     /// is as it was.
     pub fn extend(&mut self, items: &[T]) -> Result<(), NoMemory>

@@ -1,12 +1,16 @@
-ghost use Rattle.std.specs.Prelude.{◌≡◌, ◌∷◌, ◌<◌, [], length, IfOk, IfSome, MatchOption};
+//! Numbers that are listed with a byte between them.
+ghost use Rattle.std.specs.Prelude.{◌≡◌, ◌∷◌, ◌<◌, [], length, IfOk, IfSome, MatchOption, if◌then◌else◌};
+ghost use Rattle.std.specs.Fmt.{decimal};
 ghost use Rattle.std.specs.Option.{is_some};
 ghost use Rattle.spiel_frac.specs.Cuts.{parts_of};
-ghost use Rattle.spiel_frac.specs.Listed.{numbers_between};
+ghost use Rattle.spiel_frac.specs.Adding.{Adds};
+ghost use Rattle.spiel_frac.specs.Listed.{listed, numbers_between};
 
 use crate::cutting::cut;
 use crate::list::List;
 use crate::memory::NoMemory;
-use crate::numbers::read_number;
+use crate::numbers::{read_number, write_number};
+use crate::text::Text;
 use std::alloc::Global;
 
 // The part before the first of these bytes, and what follows the byte, if there is one.
@@ -52,4 +56,27 @@ pub fn are_numbers(word: &[u8], mark: u8) -> bool
         rest = behind;
     }
     true
+}
+
+// Adds a number behind the byte, unless it is the first.
+fn write_next(number: u32, mark: u8, is_first: bool, out: &mut Text) -> Result<(), NoMemory>
+    ensures { Adds result out.old out.new (if is_first then decimal number else mark ∷ decimal number) }
+{
+    if is_first {
+        write_number(number, out)
+    } else {
+        out.push(&[mark])?;
+        write_number(number, out)
+    }
+}
+
+/// Adds the decimal texts of the numbers, with this byte between each two. After `NoMemory` a front
+/// of this may have been added.
+pub fn write_numbers(numbers: &[u32], mark: u8, out: &mut Text) -> Result<(), NoMemory>
+    ensures { Adds result out.old out.new (listed mark numbers.now) }
+{
+    for (index, number) in numbers.iter().enumerate() {
+        write_next(*number, mark, index == 0, out)?;
+    }
+    Ok(())
 }

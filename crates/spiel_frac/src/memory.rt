@@ -1,3 +1,4 @@
+//! The want of memory, and what it says.
 ghost use Rattle.std.specs.Prelude.{Some, codes};
 
 use std::alloc::{AllocError, AllocFailed};

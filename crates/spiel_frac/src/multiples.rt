@@ -1,3 +1,4 @@
+//! The least common multiple of two numbers.
 ghost use Rattle.std.specs.Prelude.{◌≡◌, ◌<◌, ◌≤◌, [], ◌∷◌, IfSome, IfNone};
 ghost use Rattle.spiel_frac.specs.Fraction.{most};
 ghost use Rattle.spiel_frac.specs.Multiples.{IsLeastMultiple, least_common_multiple};

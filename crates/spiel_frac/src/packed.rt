@@ -1,3 +1,4 @@
+//! A list of lists, which stand one after another in one place.
 ghost use Rattle.std.specs.Prelude.{◌≡◌, ◌<◌, ◌≤◌, [], ◌∷◌, ◌++◌, length, slice_index, slice_index_or, OnOk, OnErr, IfSome, ◌+◌};
 ghost use Rattle.spiel_frac.specs.Packed.{pieces, AreEnds};
 

@@ -1,3 +1,4 @@
+//! A text that grows at its end, which contracts see as its bytes.
 ghost use Rattle.std.specs.Prelude.{◌≡◌, [], ◌++◌, OnOk, OnErr};
 
 use crate::memory::NoMemory;

@@ -1,24 +1,21 @@
 -- Goofspiel keeps the laws.
-use Rattle.std.specs.Prelude.{◌≡◌, ◌≢◌, ℕ, zero, suc, ◌+◌, ◌-◌, ◌*◌, ◌/◌, ◌%◌, ◌^◌, ◌<◌, ◌≤◌, pos, negsuc, Bool, true, false, not, List, [], ◌∷◌, ◌++◌, length, map, codes, nat_abs, sum, flat_map, slice_get, Option, None, Some, nat_lt, if◌then◌else◌, ◌==◌}
-use Rattle.std.specs.List.{All, sum_by}
-use Rattle.std.specs.List.Sorted.{IsStrictlyIncreasing}
+use Rattle.std.specs.Prelude.{◌≡◌, ℕ, zero, suc, ◌+◌, ◌-◌, ◌*◌, ◌/◌, ◌<◌, ◌≤◌, pos, negsuc, Bool, true, false, List, [], ◌∷◌, ◌++◌, length, map, codes, nat_abs, flat_map, slice_get, Option, None, Some, nat_lt, if◌then◌else◌, ◌==◌}
+use Rattle.std.specs.List.{All}
 use Rattle.std.specs.Fmt.{decimal}
-use Rattle.std.proofs.Common.{refl, ap, sym, subst, ◌∙◌, arith, length-append}
+use Rattle.std.proofs.Common.{refl, ap, sym, subst, arith}
 use Rattle.std.proofs.Math.Nat.{mul-le-mul}
 use Rattle.std.proofs.lemmas.Bool.{false≢true, eqb-false, ltb-true}
 use Rattle.std.proofs.lemmas.Int.{ints}
-use Rattle.std.proofs.lemmas.Fmt.{length-decimal-le, decimal_by_steps}
 use Rattle.std.proofs.lemmas.List.{length-map}
-use Rattle.std.proofs.lemmas.List.Elements.{All-nil, All-head, All-tail, All-append, All-push, All-weaker, All-contains, All-from_recursion}
-use Rattle.std.proofs.lemmas.List.Sums.{sum-map, sum_by-cons}
+use Rattle.std.proofs.lemmas.List.Elements.{All-nil, All-weaker, All-contains}
+use Rattle.std.proofs.lemmas.List.Sums.{sum_by-cons}
 use Rattle.spiel_api.specs.declared.place.Place.{Place}
 use Rattle.spiel_api.specs.declared.place.Place.TheVariants.{End, Chance, Move, Joint}
-use Rattle.spiel_api.specs.Rules.{next_at}
 use Rattle.spiel_api.specs.Plays.{IsPlay}
-use Rattle.spiel_api.specs.Walks.{is_in}
-use Rattle.spiel_api.specs.Place.{IsAmongPlayers, IsOpen, IsOutside}
-use Rattle.spiel_api.specs.Laws.{IsLawful, IsPrintable, HasLegalNumbers, HasChanceWeights, HasWholeJointSteps}
-use Rattle.spiel_api.proofs.LawLemmas.{IsStrictlyIncreasing-computed, IsPrintable-computed}
+use Rattle.spiel_api.specs.Place.{IsOutside}
+use Rattle.spiel_api.specs.Laws.{IsLawful, IsPrintable, HasWholeJointSteps}
+use Rattle.spiel_api.proofs.LawLemmas.{IsPrintable-append, IsPrintable-computed, IsPrintable-texts, decimal_printable}
+use Rattle.spiel_api.proofs.NodeLaws.{AreChoices, AreChoices-left, AreWeights-ones, IsNode, chance_weights, legal_numbers}
 use Rattle.spiel_goof.specs.declared.turns.Turn.{Turn}
 use Rattle.spiel_goof.specs.declared.turns.Stage.{Stage}
 use Rattle.spiel_goof.specs.declared.turns.Stage.TheVariants.{Between, Shown, Bid}
@@ -26,56 +23,21 @@ use Rattle.spiel_goof.specs.declared.goofspiel.PointOrder.{PointOrder}
 use Rattle.spiel_goof.specs.declared.goofspiel.ReturnKind.{ReturnKind}
 use Rattle.spiel_goof.specs.declared.goofspiel.ReturnKind.TheVariants.{WinLoss, PointDifference, TotalPoints}
 use Rattle.spiel_api.specs.Deck.{numbers_below, cards_left}
-use Rattle.spiel_api.proofs.CardsLeft.{where_rise, where_low, where_at_most, left_at_least}
+use Rattle.spiel_api.proofs.CardsLeft.{left_at_most, left_low}
 use Rattle.spiel_goof.specs.Worth.{worth, worth-append, all_worth}
 use Rattle.spiel_goof.specs.Goofspiel.{IsCardCount, point_of, given_points, Parts, parts, place_by, place_at, numbers_at, legal_at, points_left, hand_of, weights_by, weights_at, name_by, outcome_text, other_text, turn_text, stage_text, info_at, bid_of, gain_of, points_of, return_of, pay_at, cap_of, goofspiel_rules}
 use Rattle.spiel_goof.specs.Turns.{begun, told, told_by, parts-push, parts-nil, length-parts}
 use Rattle.spiel_goof.specs.GoofspielPlays.{IsSound, IsTurnOf, IsStageOf, lying, come, length-come, sound_play}
 
--- as many ones add up to their number
-ones : (xs : List ℕ) → sum_by (λ x. 1) xs ≡ length xs
-ones [] = refl
-ones (x ∷ xs) = omega (arith, sum_by-cons (λ (x : ℕ). 1) x xs, ones xs)
-
-sum_of_ones : (cards : List ℕ) → sum (map (λ card. 1) cards) ≡ length cards
-sum_of_ones cards = sum-map (λ card. 1) cards ∙ ones cards
-
-nothing_rises : IsStrictlyIncreasing []
-nothing_rises = IsStrictlyIncreasing-computed [] refl
-
-left_rise : (n : ℕ) (gone : List ℕ) → IsStrictlyIncreasing (cards_left n gone)
-left_rise n gone = where_rise _ n
-
-left_small : (n : ℕ) (gone : List ℕ) → All (λ a. a < n) (cards_left n gone)
-left_small n gone = where_low _ n
-
--- a card is left as long as turns are
-some_left : (n : ℕ) (card_of : Turn → ℕ) (turns : List Turn) → length turns < n → 0 < length (cards_left n (map card_of turns))
-some_left n card_of turns l = omega (arith, left_at_least n (map card_of turns), length-map turns card_of)
-
 -- texts
-abbrev IsPrinted : ℕ → Type 0
-IsPrinted b = (32 ≤ b) × (b ≤ 126)
-
-decimal_printed : (n : ℕ) → n < 100 → All IsPrinted (decimal n)
-decimal_printed n l = decimal_by_steps (λ n text. All IsPrinted text)
-    (λ n m. All-from_recursion IsPrinted ((48 + n) ∷ []) ((omega arith, omega arith), tt))
-    (λ n text m printed. All-push IsPrinted text (48 + n % 10) printed (omega arith, omega arith)) n (omega arith)
-
 printable_decimal : (n : ℕ) → n < 100 → IsPrintable 2 (decimal n)
-printable_decimal n l = record { short = length-decimal-le 2 n (omega arith) (omega arith) (omega arith); ascii = decimal_printed n l }
-
-printable-append : (m n most : ℕ) (xs ys : List ℕ) → m + n ≤ most → IsPrintable m xs → IsPrintable n ys → IsPrintable most (xs ++ ys)
-printable-append m n most xs ys l first second = record {
-  short = omega (arith, length-append xs ys, first.short, second.short);
-  ascii = All-append IsPrinted xs ys first.ascii second.ascii;
-}
+printable_decimal n l = decimal_printable 2 n (omega arith) (omega arith) (omega arith)
 
 printable_name : (place : Place) (a : ℕ) → a < 20 → IsPrintable 128 (name_by place a)
-printable_name End a l = printable-append 4 2 128 (codes "bid ") (decimal (a + 1)) (omega arith) (IsPrintable-computed 4 (codes "bid ") refl refl) (printable_decimal (a + 1) (omega arith))
-printable_name Chance a l = printable-append 6 2 128 (codes "point ") (decimal (a + 1)) (omega arith) (IsPrintable-computed 6 (codes "point ") refl refl) (printable_decimal (a + 1) (omega arith))
-printable_name (Move q) a l = printable-append 4 2 128 (codes "bid ") (decimal (a + 1)) (omega arith) (IsPrintable-computed 4 (codes "bid ") refl refl) (printable_decimal (a + 1) (omega arith))
-printable_name (Joint q) a l = printable-append 4 2 128 (codes "bid ") (decimal (a + 1)) (omega arith) (IsPrintable-computed 4 (codes "bid ") refl refl) (printable_decimal (a + 1) (omega arith))
+printable_name End a l = IsPrintable-append 4 2 128 (codes "bid ") (decimal (a + 1)) (omega arith) (IsPrintable-computed 4 (codes "bid ") refl refl) (printable_decimal (a + 1) (omega arith))
+printable_name Chance a l = IsPrintable-append 6 2 128 (codes "point ") (decimal (a + 1)) (omega arith) (IsPrintable-computed 6 (codes "point ") refl refl) (printable_decimal (a + 1) (omega arith))
+printable_name (Move q) a l = IsPrintable-append 4 2 128 (codes "bid ") (decimal (a + 1)) (omega arith) (IsPrintable-computed 4 (codes "bid ") refl refl) (printable_decimal (a + 1) (omega arith))
+printable_name (Joint q) a l = IsPrintable-append 4 2 128 (codes "bid ") (decimal (a + 1)) (omega arith) (IsPrintable-computed 4 (codes "bid ") refl refl) (printable_decimal (a + 1) (omega arith))
 
 printable_outcome : (own other : ℕ) → IsPrintable 2 (outcome_text own other)
 printable_outcome own other = by (nat_lt other own) (nat_lt own other)
@@ -101,20 +63,14 @@ printable_turn n hidden p turn few cards =
     let slash = IsPrintable-computed 1 (codes "/") refl refl in
     let own_small = bid_small n p turn cards in
     let other_small = bid_small n (1 - p) turn cards in
-    let with_point = printable-append 2 1 3 point (codes "/") (omega arith) (printable_decimal (turn.point + 1) (omega (arith, cards.point))) slash in
-    let with_own = printable-append 3 2 5 (point ++ codes "/") own (omega arith) with_point (printable_decimal (bid_of p turn + 1) (omega arith)) in
-    let with_slash = printable-append 5 1 6 (point ++ codes "/" ++ own) (codes "/") (omega arith) with_own slash in
-    let with_other = printable-append 6 2 8 (point ++ codes "/" ++ own ++ codes "/") other (omega arith) with_slash (printable_other hidden (bid_of p turn) (bid_of (1 - p) turn) (omega arith)) in
-    printable-append 8 1 9 (point ++ codes "/" ++ own ++ codes "/" ++ other) (codes " ") (omega arith) with_other (IsPrintable-computed 1 (codes " ") refl refl)
-
-printable_turns : (n : ℕ) (hidden : Bool) (p : ℕ) (turns : List Turn) → n ≤ 20 → All (IsTurnOf n) turns → IsPrintable (9 * length turns) (flat_map (turn_text hidden p) turns)
-printable_turns n hidden p [] few cards = record { short = omega arith; ascii = All-nil IsPrinted }
-printable_turns n hidden p (turn ∷ turns) few cards =
-    printable-append 9 (9 * length turns) (9 * length (turn ∷ turns)) (turn_text hidden p turn) (flat_map (turn_text hidden p) turns) (omega arith)
-    (printable_turn n hidden p turn few (All-head (IsTurnOf n) turn turns cards)) (printable_turns n hidden p turns few (All-tail (IsTurnOf n) turn turns cards))
+    let with_point = IsPrintable-append 2 1 3 point (codes "/") (omega arith) (printable_decimal (turn.point + 1) (omega (arith, cards.point))) slash in
+    let with_own = IsPrintable-append 3 2 5 (point ++ codes "/") own (omega arith) with_point (printable_decimal (bid_of p turn + 1) (omega arith)) in
+    let with_slash = IsPrintable-append 5 1 6 (point ++ codes "/" ++ own) (codes "/") (omega arith) with_own slash in
+    let with_other = IsPrintable-append 6 2 8 (point ++ codes "/" ++ own ++ codes "/") other (omega arith) with_slash (printable_other hidden (bid_of p turn) (bid_of (1 - p) turn) (omega arith)) in
+    IsPrintable-append 8 1 9 (point ++ codes "/" ++ own ++ codes "/" ++ other) (codes " ") (omega arith) with_other (IsPrintable-computed 1 (codes " ") refl refl)
 
 printable_stage : (n : ℕ) (stage : Stage) → n ≤ 20 → IsStageOf n stage → IsPrintable 2 (stage_text stage)
-printable_stage n Between few cards = record { short = omega arith; ascii = All-nil IsPrinted }
+printable_stage n Between few cards = IsPrintable-computed 2 [] refl refl
 printable_stage n (Shown point) few cards = printable_decimal (point + 1) (omega arith)
 printable_stage n (Bid point first) few cards = let small : point < n = cards.0 in printable_decimal (point + 1) (omega arith)
 
@@ -173,25 +129,18 @@ module _ (n : ℕ) (order : PointOrder) (returns : ReturnKind) (hidden : Bool) (
 
   -- each legal number is a card
   pub legal_small : (h : List ℕ) (p : ℕ) → IsPlay (goofspiel_rules n order returns hidden) h → All (λ a. a < n) (legal_at n (parts order n h) p)
-  legal_small h p play = everywhere (λ place legal weights. All (λ a. a < n) (legal p)) (λ turns l. left_small n (map point_of turns)) (λ q turns m l. left_small n (map (bid_of p) turns)) (All-nil (λ a. a < n)) h play
+  legal_small h p play = everywhere (λ place legal weights. All (λ a. a < n) (legal p)) (λ turns l. left_low n (map point_of turns)) (λ q turns m l. left_low n (map (bid_of p) turns)) (All-nil (λ a. a < n)) h play
 
-  legal_numbers : HasLegalNumbers (goofspiel_rules n order returns hidden)
-  legal_numbers = record {
-    mover = λ h play. everywhere (λ place legal weights. IsAmongPlayers 2 place) (λ turns l. tt) (λ q turns m l. m) tt h play;
-    rises = λ h p play m. everywhere (λ place legal weights. IsStrictlyIncreasing (legal p)) (λ turns l. left_rise n (map point_of turns)) (λ q turns m l. left_rise n (map (bid_of p) turns)) nothing_rises h play;
-    small = λ h p play m. All-weaker (λ a. a < n) (λ a. a < 2 ^ 32 - 1) (λ x m. omega (arith, card_count)) (legal_at n (parts order n h) p) (legal_small h p play);
-    goes_on = λ h play. everywhere (λ place legal weights. IsOpen place → 0 < length (next_at place legal)) (λ turns l o. some_left n point_of turns l) (λ q turns m l o. some_left n (bid_of q) turns l) (λ o. absurd o) h play;
-    stops = λ h p play m. everywhere (λ place legal weights. place ≡ End → legal p ≡ []) (λ turns l e. cc) (λ q turns m l e. cc) (λ e. refl) h play;
-    waits = λ h p q play m. everywhere (λ place legal weights. place ≡ Move q → p ≢ q → legal p ≡ []) (λ turns l e. cc) (λ r turns m l e. cc) (λ e n. refl) h play;
-    shared = λ h p q play m n. everywhere (λ place legal weights. place ≡ Chance → legal p ≡ legal q) (λ turns l e. refl) (λ r turns m l e. cc) (λ e. refl) h play;
-  }
-
-  chance_weights : HasChanceWeights (goofspiel_rules n order returns hidden)
-  chance_weights = record {
-    weighed = λ h play. everywhere (λ place legal weights. place ≡ Chance → length weights ≡ length (next_at place legal)) (λ turns l e. length-map (points_left n turns) (λ point. 1)) (λ q turns m l e. cc) (λ e. cc) h play;
-    weight_low = λ h play. everywhere (λ place legal weights. place ≡ Chance → 1 ≤ sum weights) (λ turns l e. rw (sum_of_ones (points_left n turns)) (some_left n point_of turns l)) (λ q turns m l e. cc) (λ e. cc) h play;
-    weight_high = λ h play. everywhere (λ place legal weights. place ≡ Chance → sum weights ≤ 2 ^ 62) (λ turns l e. rw (sum_of_ones (points_left n turns)) (omega (arith, where_at_most (λ c. not (is_in (map point_of turns) c)) n, card_count))) (λ q turns m l e. cc) (λ e. cc) h play;
-  }
+  nodes : (h : List ℕ) → IsPlay (goofspiel_rules n order returns hidden) h → IsNode 2 (place_at n (parts order n h)) (legal_at n (parts order n h)) (weights_at n (parts order n h))
+  nodes = everywhere (IsNode 2)
+      (λ turns l.
+      let left = choices point_of turns l in
+      (λ p q. refl, left, AreWeights-ones (points_left n turns) left.some (omega (arith, left_at_most n (map point_of turns), card_count))))
+      (λ q turns m l. (m, λ p k. choices (bid_of p) turns l)) (λ p. refl)
+    where
+      -- a card is left as long as turns are
+      choices : (card_of : Turn → ℕ) (turns : List Turn) → length turns < n → AreChoices (cards_left n (map card_of turns))
+      choices card_of turns l = AreChoices-left n (map card_of turns) (omega (arith, card_count)) (omega (arith, l, length-map turns card_of))
 
   -- joint steps
   -- after one number more
@@ -253,8 +202,8 @@ module _ (n : ℕ) (order : PointOrder) (returns : ReturnKind) (hidden : Bool) (
   infos h p play =
       let x = parts order n h in
       let sound = sound_play n order returns hidden h play in
-      printable-append (9 * length x.turns) 2 32768 (flat_map (turn_text hidden p) x.turns) (stage_text x.stage) (omega (arith, few_turns h play))
-      (printable_turns n hidden p x.turns card_count sound.turns) (printable_stage n x.stage card_count sound.stage)
+      IsPrintable-append (9 * length x.turns) 2 32768 (flat_map (turn_text hidden p) x.turns) (stage_text x.stage) (omega (arith, few_turns h play))
+      (IsPrintable-texts 9 (turn_text hidden p) x.turns (All-weaker (IsTurnOf n) (λ turn. IsPrintable 9 (turn_text hidden p turn)) (λ turn cards. printable_turn n hidden p turn card_count cards) x.turns sound.turns)) (printable_stage n x.stage card_count sound.stage)
 
   -- both players together have no more points than there are
   pub points_low : (h : List ℕ) → IsPlay (goofspiel_rules n order returns hidden) h → points_of 0 (parts order n h).turns + points_of 1 (parts order n h).turns ≤ n * (n + 1) / 2
@@ -303,8 +252,8 @@ module _ (n : ℕ) (order : PointOrder) (returns : ReturnKind) (hidden : Bool) (
       cap_high = omega (arith, (cap_within returns).1);
       short = λ h play. omega (arith, length-parts order n h, few_turns h play);
     };
-    numbers = legal_numbers;
-    chance = chance_weights;
+    numbers = legal_numbers (goofspiel_rules n order returns hidden) nodes;
+    chance = chance_weights (goofspiel_rules n order returns hidden) nodes;
     joint = joint_step;
     texts = record {
       infos = λ h p play has l. infos h p play;

@@ -21,6 +21,7 @@ use Rattle.spiel_goof.specs.Worth.{worth, worth-append, worth-reverse, left_wort
 use Rattle.spiel_goof.specs.Goofspiel.{point_of, given_points, Parts, parts, place_at, legal_at, points_left, goofspiel_rules}
 use Rattle.spiel_goof.specs.Turns.{begun, told_by, parts-push, parts-nil}
 use Rattle.spiel_api.proofs.Inductions.{of_plays}
+use Rattle.spiel_api.proofs.Members.{none_of_none}
 
 -- the point card that lies, if one does
 abbrev pub lying : Stage → List ℕ
@@ -93,9 +94,6 @@ get_past : (xs : List ℕ) (k : ℕ) → slice_get xs k ≡ None → length xs �
 get_past [] k e = omega arith
 get_past (x ∷ xs) zero e = cc
 get_past (x ∷ xs) (suc k) e = omega (arith, get_past xs k e)
-
-none_of_none : {P : Type 0} (a : ℕ) → Contains [] a → P
-none_of_none a c = absurd (omega (arith, c.1))
 
 -- chance draws a point card
 sound_draw : (n : ℕ) (points : List ℕ) (turns : List Turn) (a : ℕ) → length turns < n → Contains (points_left n turns) a → IsSound n points (record { turns = turns; stage = Between }) → IsSound n points (record { turns = turns; stage = Shown a })

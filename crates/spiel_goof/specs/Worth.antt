@@ -1,12 +1,12 @@
 -- What cards are worth.
-use Rattle.std.proofs.Common.{◌≡◌, ℕ, zero, suc, ◌+◌, ◌*◌, ◌/◌, ◌<◌, ◌≤◌, Bool, true, false, not, ◌||◌, cond, List, [], ◌∷◌, ◌++◌, reverse, ◌==◌, ◌⊎◌, inl, inr, refl, ap, sym, ◌∙◌, arith}
+use Rattle.std.proofs.Common.{◌≡◌, ℕ, zero, suc, ◌+◌, ◌*◌, ◌/◌, ◌<◌, ◌≤◌, Bool, true, false, not, cond, List, [], ◌∷◌, ◌++◌, reverse, ◌⊎◌, inl, inr, refl, sym, arith}
 use Rattle.std.specs.List.{Contains, sum_by}
-use Rattle.std.proofs.lemmas.Bool.{cases_lt, ne_eqb, eq-eqb}
+use Rattle.std.proofs.lemmas.Bool.{cases_lt, ne_eqb, eq-eqb, or_right}
 use Rattle.std.proofs.lemmas.List.{reverse-append}
-use Rattle.std.proofs.lemmas.List.Folds.{list_any-append}
 use Rattle.std.proofs.lemmas.List.Sums.{sum_by-append, sum_by-cons}
 use Rattle.spiel_api.specs.Walks.{is_in}
 use Rattle.spiel_api.specs.Deck.{numbers_below, cards_where, cards_left}
+use Rattle.spiel_api.proofs.Members.{is_in-push, or_false}
 use Rattle.spiel_api.proofs.CardsLeft.{left_below, where_agree, where_next, where_other, where_passes, where_push}
 
 -- what cards are worth: a card's number is the card less 1
@@ -49,23 +49,11 @@ module _ (test other : ℕ → Bool) (card : ℕ) (same : (c : ℕ) → (c ≡ c
           rw (e, where_next test card passes, where_other other card fails, where_agree test other card (λ c m. same c (λ f. omega arith)))
           (omega (arith, worth-append (cards_where other card) (card ∷ [])))
 
-or_false : (b : Bool) → (b || false) ≡ b
-or_false true = refl
-or_false false = refl
-
--- one card more that is gone
-pub is_in-push : (gone : List ℕ) (card c : ℕ) → is_in (gone ++ card ∷ []) c ≡ (is_in gone c || card == c)
-is_in-push gone card c = list_any-append (λ x. x == c) gone (card ∷ []) ∙ ap (λ b. is_in gone c || b) (or_false (card == c))
-
-or_true : (b : Bool) → (b || true) ≡ true
-or_true true = refl
-or_true false = refl
-
 -- a card that is drawn takes its worth away
 pub left_worth : (n : ℕ) (gone : List ℕ) (card : ℕ) → Contains (cards_left n gone) card → worth (cards_left n gone) ≡ worth (cards_left n (gone ++ card ∷ [])) + (card + 1)
 left_worth n gone card c =
     one_away (λ c. not (is_in gone c)) (λ c. not (is_in (gone ++ card ∷ []) c)) card
     (λ c other. rw (is_in-push gone card c, ne_eqb card c (λ e. other (sym e)), or_false) refl)
     (where_passes (λ c. not (is_in gone c)) n card c)
-    (rw (is_in-push gone card card, eq-eqb card card refl, or_true) refl)
+    (rw (is_in-push gone card card, eq-eqb card card refl, or_right (is_in gone card) true refl) refl)
     n (left_below n gone card c)

@@ -1,4 +1,4 @@
-//! Which cards are left.
+//! A set of the cards that are left.
 ghost use Rattle.std.specs.Prelude.{◌≡◌, ◌<◌, ◌≤◌, ◌++◌, ◌∷◌, List, ℕ, [], length, slice_index};
 ghost use Rattle.spiel_goof.specs.Cards.{AreLeft, held};
 

@@ -97,14 +97,23 @@ impl Goofspiel {
         ensures rules { IfOk result (λ game. ⟦<Goofspiel as Game>⟧.rules game ≡ goofspiel_rules cards order returns hidden) }
     {
         if (1..=20).contains(&cards) {
-            Ok(Goofspiel {
-                cards,
-                order,
-                returns,
-                hidden,
-            })
+            Ok(Goofspiel::of(cards, order, returns, hidden))
         } else {
             Err(BadCards)
+        }
+    }
+
+    /// The same game, of 1 to 20 cards.
+    pub fn of(cards: u32, order: PointOrder, returns: ReturnKind, hidden: bool) -> Goofspiel
+        requires { IsCardCount cards }
+        ensures game { ⟦<Goofspiel as Game>⟧.is_game result }
+        ensures rules { ⟦<Goofspiel as Game>⟧.rules result ≡ goofspiel_rules cards order returns hidden }
+    {
+        Goofspiel {
+            cards,
+            order,
+            returns,
+            hidden,
         }
     }
 
@@ -377,10 +386,8 @@ impl Game for Goofspiel {
     }
 
     fn copy(&self, alloc: Global, state: &GoofspielState) -> Result<GoofspielState, NoMemory> {
-        let mut history = List::new(alloc);
-        history.extend(state.history.items())?;
         Ok(GoofspielState {
-            history,
+            history: state.history.copy(alloc)?,
             table: state.table,
         })
     }

@@ -1,4 +1,4 @@
-//! The table at which goofspiel is played.
+//! The table at which goofspiel is played: what lies there, and what the players have after each turn.
 ghost use Rattle.std.specs.Prelude.{◌≡◌, ◌<◌, ◌≤◌, ◌+◌, ◌-◌, ◌^◌, ◌++◌, ◌∷◌, List, ℕ, [], map, take};
 ghost use Rattle.std.specs.List.{All};
 ghost use Rattle.spiel_goof.specs.Cards.{AreLeft};

@@ -1,4 +1,4 @@
-//! What a play of goofspiel is made of.
+//! What a play of goofspiel is made of: complete turns, and the turn that is on.
 ghost use Rattle.std.specs.Prelude.{◌≡◌, ◌<◌};
 ghost use Rattle.spiel_goof.specs.Goofspiel.{bid_of, gain_of};
 

@@ -3,4 +3,3 @@ pub mod RepeatFaults
 pub mod RepeatedRounds
 pub mod RepeatedSteps
 pub mod RepeatedUndone
-pub mod RoundsTold

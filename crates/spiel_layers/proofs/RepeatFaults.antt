@@ -1,20 +1,16 @@
 -- The fault that is computed is the one that the facts tell.
-use Rattle.std.proofs.Common.{◌≡◌, ℕ, ◌*◌, ◌^◌, ◌<◌, ◌≤◌, ◌⊎◌, Bool, true, false, nat_lt, ◌==◌, ◌||◌, Some, None, refl, arith, inl, inr}
-use Rattle.std.proofs.lemmas.Bool.{lt-ltb, le-ltb, eq-eqb, ne_eqb}
+use Rattle.std.proofs.Common.{◌≡◌, ℕ, ◌*◌, ◌^◌, ◌<◌, ◌≤◌, ◌⊎◌, true, false, nat_lt, ◌==◌, ◌||◌, Some, None, refl, arith, inl, inr}
+use Rattle.std.proofs.lemmas.Bool.{lt-ltb, le-ltb, eq-eqb, ne_eqb, or_right}
 use Rattle.spiel_api.specs.declared.game.Game.{Ghosts}
 use Rattle.spiel_api.specs.Rules.{Rules}
 use Rattle.spiel_layers.specs.declared.repeated.RepeatFault.{RepeatFault}
 use Rattle.spiel_layers.specs.declared.repeated.RepeatFault.TheVariants.{NotOneShot, Repeats, PayTooFine}
 use Rattle.spiel_layers.specs.Repeated.{CanRepeat, HasRepeatFault, repeat_fault}
 
-or_true : (b : Bool) → (b || true) ≡ true
-or_true true = refl
-or_true false = refl
-
 -- too few repetitions, or too many
 refused : (t n : ℕ) → (t ≡ 0) ⊎ (1024 < n) → (t == 0 || nat_lt 1024 n) ≡ true
 refused t n (inl e) = rw (eq-eqb t 0 e) refl
-refused t n (inr l) = rw (lt-ltb 1024 n l) (or_true (t == 0))
+refused t n (inr l) = rw (lt-ltb 1024 n l) (or_right (t == 0) true refl)
 
 taken : (t n : ℕ) → 1 ≤ t → n ≤ 1024 → (t == 0 || nat_lt 1024 n) ≡ false
 taken t n some fits = rw (ne_eqb t 0 (λ e. absurd (omega arith)), le-ltb 1024 n fits) refl

@@ -12,4 +12,6 @@ pub mod StartAt
 pub mod StartAtLaws
 pub mod TurnBased
 pub mod TurnBasedLaws
+pub mod Either
+pub mod EitherLaws
 pub mod FaultTexts

@@ -1,6 +1,7 @@
 //! Games that are made of other games.
 #![tactic(auto)]
 
+mod either;
 mod laws;
 mod layer;
 mod misere;
@@ -9,6 +10,7 @@ mod start_at;
 mod told;
 mod turn_based;
 
+pub use either::{Either, EitherState};
 pub use laws::{choices_are_hidden, plays_go_on, rounds_are_plays};
 pub use layer::{Layer, LayerState};
 pub use misere::Misere;

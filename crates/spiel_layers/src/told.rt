@@ -1,4 +1,4 @@
-//! What is told of the rounds that are over.
+//! What a repeated game tells of the rounds that are over.
 ghost use Rattle.spiel_frac.specs.Adding.{Adds};
 ghost use Rattle.spiel_layers.specs.Repeated.{with_space, rounds_told};
 

@@ -1,11 +1,11 @@
 -- Products that aren't too large.
 use Rattle.std.proofs.Common.{◌≡◌, ℕ, zero, suc, ◌+◌, ◌*◌, ◌<◌, ◌≤◌, Bool, true, false, List, [], ◌∷◌, length, drop, Some, None, refl, sym, ap, ◌∙◌, arith, nat_le, nat_lt, if◌then◌else◌, add-one}
 use Rattle.std.specs.Prelude.{slice_index_or}
-use Rattle.std.proofs.lemmas.Bool.{leb-true, leb-false}
+use Rattle.std.proofs.lemmas.Bool.{and_parts, leb-true, leb-false}
 use Rattle.std.proofs.Math.Nat.{mul-le-mul_left, mul-one, mul_assoc}
 use Rattle.spiel_matrix.specs.Contingencies.{contingencies}
 use Rattle.spiel_matrix.specs.Parts.{are_filled, most_pays}
-use Rattle.spiel_matrix.specs.MatrixPlays.{both, contingencies_low}
+use Rattle.spiel_matrix.specs.MatrixPlays.{contingencies_low}
 
 -- ---- a number, unless it passes a bound
 pub some_within : {A : Type 0} (number bound : ℕ) (x y : A) → Some x ≡ (if nat_le number bound then Some y else None) → (x ≡ y) × (number ≤ bound)
@@ -38,7 +38,7 @@ later_contingencies (own ∷ others) (suc k) d l = later_contingencies others k 
 later_low : (strategies : List (List (List ℕ))) (k : ℕ) → are_filled strategies ≡ true → 0 < contingencies (drop k strategies)
 later_low strategies zero e = contingencies_low strategies e
 later_low [] (suc k) e = omega arith
-later_low (own ∷ others) (suc k) e = later_low others k (both (nat_lt 0 (length own)) (are_filled others) e).1
+later_low (own ∷ others) (suc k) e = later_low others k (and_parts (nat_lt 0 (length own)) (are_filled others) e).1
 
 -- one player more
 pub count_more : (strategies : List (List (List ℕ))) (k count total : ℕ) (d : List (List ℕ)) → k < length strategies → count * contingencies (drop k strategies) ≡ total

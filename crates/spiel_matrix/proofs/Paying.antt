@@ -1,7 +1,7 @@
 -- Units, parts and caps.
 use Rattle.std.proofs.Common.{◌≡◌, ℕ, zero, suc, ◌+◌, ◌^◌, ◌<◌, ◌≤◌, max, Bool, true, false, ◌&&◌, List, [], ◌∷◌, ◌++◌, length, map, take, Some, None, refl, sym, ap, subst, ◌∙◌, arith, nat_abs, nat_le, if◌then◌else◌}
 use Rattle.std.specs.Prelude.{ℤ, pos, slice_index_or, IfSome}
-use Rattle.std.proofs.lemmas.Bool.{le-leb, leb-false}
+use Rattle.std.proofs.lemmas.Bool.{and_from, and_right, le-leb, leb-false}
 use Rattle.std.proofs.lemmas.List.{map_more}
 use Rattle.std.proofs.lemmas.Nat.Gcd.{le_of_dvd}
 use Rattle.spiel_frac.specs.Fraction.{Fraction}
@@ -72,25 +72,17 @@ unit_more pays k d l p q = by (nat_le unit (2 ^ 62)) refl
     by false e = beyond_none (common_unit (take (k + 1) pays)) (2 ^ 62) (common_unit (take (k + 1) pays)) (omega (arith, leb-false unit (2 ^ 62) e, grows, next))
 
 -- ---- pays that are fine
-both_true : (a b : Bool) → a ≡ true → b ≡ true → (a && b) ≡ true
-both_true true b e f = f
-both_true false b e f = absurd cc
-
 -- parts of a right shape with pays that are fine make a game
 pub is_matrix_from : (parts : MatrixParts) → has_shape parts ≡ true → common_unit parts.pays ≤ 2 ^ 62 → are_small (common_unit parts.pays) parts.pays ≡ true → is_matrix parts ≡ true
 is_matrix_from parts shape high small =
     let unit : ℕ = common_unit parts.pays in
-    both_true (has_shape parts) (are_fine parts.pays) shape (both_true (nat_le unit (2 ^ 62)) (are_small unit parts.pays) (le-leb unit (2 ^ 62) high) small)
+    and_from (has_shape parts) (are_fine parts.pays) shape (and_from (nat_le unit (2 ^ 62)) (are_small unit parts.pays) (le-leb unit (2 ^ 62) high) small)
 
 -- ---- pays that are too large
 large_somewhere : (unit : ℕ) (pays : List Fraction) (k : ℕ) (d : Fraction) → k < length pays → nat_le (nat_abs (in_parts unit (slice_index_or pays k d))) (2 ^ 62) ≡ false → are_small unit pays ≡ false
 large_somewhere unit [] k d l e = absurd (omega arith)
 large_somewhere unit (pay ∷ pays) zero d l e = ap (λ (b : Bool). b && are_small unit pays) e
-large_somewhere unit (pay ∷ pays) (suc k) d l e = ap (λ (b : Bool). nat_le (nat_abs (in_parts unit pay)) (2 ^ 62) && b) (large_somewhere unit pays k d (omega arith) e) ∙ and_false (nat_le (nat_abs (in_parts unit pay)) (2 ^ 62))
-  where
-    and_false : (b : Bool) → (b && false) ≡ false
-    and_false true = refl
-    and_false false = refl
+large_somewhere unit (pay ∷ pays) (suc k) d l e = ap (λ (b : Bool). nat_le (nat_abs (in_parts unit pay)) (2 ^ 62) && b) (large_somewhere unit pays k d (omega arith) e) ∙ and_right (nat_le (nat_abs (in_parts unit pay)) (2 ^ 62)) false refl
 
 pub too_large : (unit : ℕ) (pays : List Fraction) (k : ℕ) (pay : Fraction) → k < length pays → pay ≡ slice_index_or pays k pay → None ≡ small_parts (in_parts unit pay) → are_small unit pays ≡ false
 too_large unit pays k pay l same none = large_somewhere unit pays k pay l (subst (λ (p : Fraction). nat_le (nat_abs (in_parts unit p)) (2 ^ 62) ≡ false) same (by (nat_le size (2 ^ 62)) refl none))

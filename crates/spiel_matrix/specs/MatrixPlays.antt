@@ -2,15 +2,15 @@
 use Rattle.std.proofs.Common.{◌≡◌, ℕ, zero, suc, ◌*◌, ◌^◌, ◌<◌, ◌≤◌, Bool, true, false, ◌&&◌, List, [], ◌∷◌, ◌++◌, length, refl, sym, subst, arith, nat_le, nat_lt, if◌then◌else◌, ◌==◌}
 use Rattle.std.specs.Prelude.{slice_index_or}
 use Rattle.std.specs.List.{Contains, range_with_len}
-use Rattle.std.proofs.lemmas.Bool.{false≢true, leb-true, ltb-true, ltb-false, eqb-true}
+use Rattle.std.proofs.lemmas.Bool.{and_parts, leb-true, ltb-true, ltb-false, eqb-true}
 use Rattle.std.proofs.lemmas.List.{append-nil}
-use Rattle.std.proofs.lemmas.List.FromFn.{get_or-range_with_len, length-range_with_len}
 use Rattle.std.proofs.Math.Nat.{mul-le-mul_left, mul-one, mul-suc, mul-pos}
 use Rattle.std.proofs.Math.Seq.{append_snoc}
 use Rattle.spiel_api.specs.declared.place.Place.{Place}
 use Rattle.spiel_api.specs.declared.place.Place.TheVariants.{End, Joint}
 use Rattle.spiel_api.specs.Rules.{next_at, next_of}
 use Rattle.spiel_api.specs.Plays.{Follows, IsPlay}
+use Rattle.spiel_api.proofs.NodeLaws.{range_within}
 use Rattle.spiel_matrix.specs.declared.parts.MatrixParts.{MatrixParts}
 use Rattle.spiel_matrix.specs.Contingencies.{contingencies, contingency_at}
 use Rattle.spiel_matrix.specs.Pays.{are_fine, are_small, common_unit}
@@ -18,10 +18,6 @@ use Rattle.spiel_matrix.specs.Parts.{are_filled, has_shape, is_matrix, is_pay_co
 use Rattle.spiel_matrix.specs.Matrix.{is_choosing, matrix_legal, matrix_place, matrix_rules, pay_place, strategies_of}
 
 -- ---- what the tests tell
-pub both : (a b : Bool) → (a && b) ≡ true → (a ≡ true) × (b ≡ true)
-both true b e = (refl, e)
-both false b e = absurd (false≢true e)
-
 pub record HasShape (parts : MatrixParts) : Type 0 where
   pub players_low : 1 ≤ length parts.players
   pub players_high : length parts.players ≤ 64
@@ -37,11 +33,11 @@ shape_from parts e =
     let four : Bool = is_pay_count wanted (length parts.pays) in
     let three : Bool = are_filled parts.strategies && four in
     let two : Bool = (length parts.strategies == players) && three in
-    let a = both (nat_le 1 players) (nat_le players 64 && two) e in
-    let b = both (nat_le players 64) two a.1 in
-    let c = both (length parts.strategies == players) three b.1 in
-    let d = both (are_filled parts.strategies) four c.1 in
-    let f = both (nat_le wanted most_pays) (length parts.pays == wanted) d.1 in
+    let a = and_parts (nat_le 1 players) (nat_le players 64 && two) e in
+    let b = and_parts (nat_le players 64) two a.1 in
+    let c = and_parts (length parts.strategies == players) three b.1 in
+    let d = and_parts (are_filled parts.strategies) four c.1 in
+    let f = and_parts (nat_le wanted most_pays) (length parts.pays == wanted) d.1 in
     record {
       players_low = leb-true 1 players a.0;
       players_high = leb-true players 64 b.0;
@@ -59,33 +55,33 @@ pub record IsMatrix (parts : MatrixParts) : Type 0 where
 pub matrix_from : (parts : MatrixParts) → is_matrix parts ≡ true → IsMatrix parts
 matrix_from parts e =
     let unit : ℕ = common_unit parts.pays in
-    let a = both (has_shape parts) (are_fine parts.pays) e in
-    let b = both (nat_le unit (2 ^ 62)) (are_small unit parts.pays) a.1 in
+    let a = and_parts (has_shape parts) (are_fine parts.pays) e in
+    let b = and_parts (nat_le unit (2 ^ 62)) (are_small unit parts.pays) a.1 in
     record { shape = shape_from parts a.0; unit_high = leb-true unit (2 ^ 62) b.0; small = b.1 }
 
 -- ---- how many strategies and contingencies there are
 -- each player has a strategy
 pub count_low : (strategies : List (List (List ℕ))) (p : ℕ) → are_filled strategies ≡ true → p < length strategies → 0 < length (slice_index_or strategies p [])
 count_low [] p e l = absurd (omega arith)
-count_low (own ∷ others) zero e l = ltb-true 0 (length own) (both (nat_lt 0 (length own)) (are_filled others) e).0
-count_low (own ∷ others) (suc p) e l = count_low others p (both (nat_lt 0 (length own)) (are_filled others) e).1 (omega arith)
+count_low (own ∷ others) zero e l = ltb-true 0 (length own) (and_parts (nat_lt 0 (length own)) (are_filled others) e).0
+count_low (own ∷ others) (suc p) e l = count_low others p (and_parts (nat_lt 0 (length own)) (are_filled others) e).1 (omega arith)
 
 pub contingencies_low : (strategies : List (List (List ℕ))) → are_filled strategies ≡ true → 0 < contingencies strategies
 contingencies_low [] e = omega arith
 contingencies_low (own ∷ others) e =
-    let two = both (nat_lt 0 (length own)) (are_filled others) e in
+    let two = and_parts (nat_lt 0 (length own)) (are_filled others) e in
     mul-pos (ltb-true 0 (length own) two.0) (contingencies_low others two.1)
 
 -- no player has more strategies than there are contingencies
 pub count_high : (strategies : List (List (List ℕ))) (p : ℕ) → are_filled strategies ≡ true → length (slice_index_or strategies p []) ≤ contingencies strategies
 count_high [] p e = omega arith
 count_high (own ∷ others) zero e =
-    let two = both (nat_lt 0 (length own)) (are_filled others) e in
+    let two = and_parts (nat_lt 0 (length own)) (are_filled others) e in
     let some : 1 ≤ contingencies others = omega (arith, contingencies_low others two.1) in
     let more : length own * 1 ≤ length own * contingencies others = mul-le-mul_left (length own) some in
     omega (arith, more, mul-one (length own))
 count_high (own ∷ others) (suc p) e =
-    let two = both (nat_lt 0 (length own)) (are_filled others) e in
+    let two = and_parts (nat_lt 0 (length own)) (are_filled others) e in
     let some : 1 ≤ length own = omega (arith, ltb-true 0 (length own) two.0) in
     let later = count_high others p two.1 in
     let more : contingencies others * 1 ≤ contingencies others * length own = mul-le-mul_left (contingencies others) some in
@@ -119,12 +115,6 @@ contingency_within (own ∷ others) (a ∷ h) c e =
     let more : length own * suc at ≤ length own * contingencies others = mul-le-mul_left (length own) (omega arith) in
     omega (arith, c.0, more, mul-suc (length own) at)
 
--- a number of a player is below the count of the strategies
-pub number_below : (count a : ℕ) → Contains (range_with_len 0 count) a → a < count
-number_below count a c =
-    let m : c.0 < count = omega (arith, c.1, length-range_with_len 0 count) in
-    omega (arith, get_or-range_with_len 0 count c.0 a m, c.2)
-
 module _ (parts : MatrixParts) where
   -- what holds where a player chooses and at the end holds everywhere
   pub everywhere : (P : Place → (ℕ → List ℕ) → Type 0) (h : List ℕ) → (length h < length parts.players → P (Joint (length h)) (λ p. range_with_len 0 (length (strategies_of parts p))))
@@ -137,12 +127,12 @@ module _ (parts : MatrixParts) where
 
   next_below : (h : List ℕ) (a : ℕ) → Contains (next_of (matrix_rules parts) h) a → a < length (strategies_of parts (length h))
   next_below h a = everywhere (λ place legal. Contains (next_at place legal) a → a < length (strategies_of parts (length h))) h
-      (λ l c. number_below (length (strategies_of parts (length h))) a c) (λ l c. absurd (omega (arith, c.1)))
+      (λ l c. omega (arith, range_within 0 (length (strategies_of parts (length h))) a c)) (λ l c. absurd (omega (arith, c.1)))
 
   -- a player's number is that of a strategy
   pub legal_below : (h : List ℕ) (p a : ℕ) → Contains (matrix_legal parts h p) a → a < length (strategies_of parts p)
   legal_below h p a = everywhere (λ place legal. Contains (legal p) a → a < length (strategies_of parts p)) h
-      (λ l c. number_below (length (strategies_of parts p)) a c) (λ l c. absurd (omega (arith, c.1)))
+      (λ l c. omega (arith, range_within 0 (length (strategies_of parts p)) a c)) (λ l c. absurd (omega (arith, c.1)))
 
   choices_along : (h rest : List ℕ) → Follows (next_of (matrix_rules parts)) h rest → AreChoices parts.strategies h → AreChoices parts.strategies (h ++ rest)
   choices_along h [] f c = subst (λ z. AreChoices parts.strategies z) (sym (append-nil h)) c

@@ -1,4 +1,4 @@
-//! Why parts make no matrix game.
+//! Why parts make no matrix game, and what each fault says.
 ghost use Rattle.std.specs.Prelude.{Some};
 ghost use Rattle.spiel_matrix.specs.FaultTexts.{fault_text};
 

@@ -202,8 +202,6 @@ impl Game for Matrix {
     }
 
     fn copy(&self, alloc: Global, state: &List<u32>) -> Result<List<u32>, NoMemory> {
-        let mut history = List::new(alloc);
-        history.extend(state.items())?;
-        Ok(history)
+        state.copy(alloc)
     }
 }

@@ -1,4 +1,4 @@
-//! The matrix games that have names.
+//! The matrix games that have names, with their payoff tables.
 ghost use Rattle.std.specs.Prelude.{◌≡◌, [], ◌∷◌, IfOk, map};
 ghost use Rattle.spiel_matrix.specs.declared.fault.MatrixFault.TheVariants.{NoMemory as MatrixNoMemory};
 ghost use Rattle.spiel_matrix.specs.Named.{named_parts, two_player_parts, whole};

@@ -1,4 +1,4 @@
-//! Pays as whole numbers.
+//! Pays as whole numbers of parts of their common unit, and the greatest size of one.
 ghost use Rattle.std.specs.Prelude.{◌≡◌, ◌<◌, ◌≤◌, ◌^◌, ℕ, Option, Some, None, nat_abs, map, IfSome, IfOk, MatchResult, true};
 ghost use Rattle.spiel_frac.specs.Multiples.{least_common_multiple};
 ghost use Rattle.spiel_matrix.specs.Pays.{are_small, common_unit, greatest, in_parts, small_parts, small_unit, unit_with, IsTooFine};

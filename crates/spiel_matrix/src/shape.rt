@@ -1,4 +1,4 @@
-//! Whether parts have a right shape.
+//! Whether parts are those of a payoff table: players, strategies, and a pay of each at each contingency.
 ghost use Rattle.std.specs.Prelude.{◌≡◌, ◌≤◌, ◌*◌, nat_le, if◌then◌else◌, true};
 ghost use Rattle.spiel_matrix.specs.Contingencies.{contingencies};
 ghost use Rattle.spiel_matrix.specs.Parts.{are_filled, has_shape, most_pays};

@@ -2,4 +2,3 @@ pub mod CardSteps
 pub mod Moves
 pub mod Said
 pub mod Steps
-pub mod Texts

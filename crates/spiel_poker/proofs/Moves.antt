@@ -3,11 +3,12 @@ use Rattle.std.proofs.Common.{◌≡◌, ℕ, zero, suc, ◌<◌, Bool, true, fa
 use Rattle.std.specs.Prelude.{slice_index, if◌then◌else◌}
 use Rattle.spiel_api.specs.declared.place.Place.{Place}
 use Rattle.spiel_api.specs.declared.place.Place.TheVariants.{End, Chance, Move, Joint}
+use Rattle.spiel_api.specs.Turns.{numbers_for}
 use Rattle.spiel_poker.specs.declared.leduc.LeducState.{LeducState}
 use Rattle.spiel_poker.specs.declared.betting.Table.{Table}
 use Rattle.spiel_poker.specs.Betting.{Opening, words_for, words_of}
 use Rattle.spiel_poker.specs.Table.{IsTable, seats}
-use Rattle.spiel_poker.specs.Leduc.{parts, opening_of, place_by, leduc_place, leduc_legal, numbers_at, cards_for, weights_at, words_at}
+use Rattle.spiel_poker.specs.Leduc.{parts, opening_of, place_by, leduc_rules, leduc_place, numbers_at, cards_for, weights_at, words_at}
 use Rattle.spiel_poker.specs.LeducState.{IsLeducAt}
 
 -- each weight is 1
@@ -38,14 +39,14 @@ table_words : (table : Table) (opening : Opening) (words : List ℕ) → IsTable
 table_words table opening words t = rw (t.stakes table.speaker t.speaker, t.top, t.raises) refl
 
 -- at a move the mover has the speaker's words, and nobody else has any
-pub legal_at_move : (state : LeducState) (p q : ℕ) → IsLeducAt state → leduc_place 2 state.history ≡ Move q → leduc_legal 2 state.history p ≡ (if p == q then words_for (nat_lt (slice_index state.table.stakes state.table.speaker) state.table.highest) (nat_lt state.table.raises 2) else [])
+pub legal_at_move : (state : LeducState) (p q : ℕ) → IsLeducAt state → leduc_place 2 state.history ≡ Move q → leduc_rules.legal state.history p ≡ (if p == q then words_for (nat_lt (slice_index state.table.stakes state.table.speaker) state.table.highest) (nat_lt state.table.raises 2) else [])
 legal_at_move state p q at e =
     let x = parts 2 state.history in
     let same : q ≡ state.table.speaker = mover_is x.round _ _ state.table.folded state.table.speaker q at.shows.table.line e in
     rw e (ap (λ (words : List ℕ). if p == q then words else []) (ap (words_at 2 x) same ∙ table_words state.table (opening_of 2 x) x.words at.shows.table))
 
 -- where there is a number and it is no card, the numbers are the speaker's words
-pub legal_at_other : (state : LeducState) (p index : ℕ) → IsLeducAt state → (leduc_place 2 state.history ≡ Chance → ⊥) → index < length (leduc_legal 2 state.history p) → leduc_legal 2 state.history p ≡ words_for (nat_lt (slice_index state.table.stakes state.table.speaker) state.table.highest) (nat_lt state.table.raises 2)
+pub legal_at_other : (state : LeducState) (p index : ℕ) → IsLeducAt state → (leduc_place 2 state.history ≡ Chance → ⊥) → index < length (leduc_rules.legal state.history p) → leduc_rules.legal state.history p ≡ words_for (nat_lt (slice_index state.table.stakes state.table.speaker) state.table.highest) (nat_lt state.table.raises 2)
 legal_at_other state p index at other within = by (leduc_place 2 state.history) refl within
   where
     words : List ℕ
@@ -55,8 +56,8 @@ legal_at_other state p index at other within = by (leduc_place 2 state.history) 
     mine true legal e l = e
     mine false legal e l = absurd (omega (arith, ap length e))
 
-    by : (place : Place) → leduc_place 2 state.history ≡ place → index < length (numbers_at place (cards_for 2 state.history) (words_at 2 (parts 2 state.history)) p) → leduc_legal 2 state.history p ≡ words
+    by : (place : Place) → leduc_place 2 state.history ≡ place → index < length (numbers_for place (numbers_at place (cards_for 2 state.history) (words_at 2 (parts 2 state.history))) p) → leduc_rules.legal state.history p ≡ words
     by End e l = absurd (omega arith)
     by Chance e l = absurd (other e)
-    by (Move q) e l = mine (p == q) (leduc_legal 2 state.history p) (legal_at_move state p q at e) within
+    by (Move q) e l = mine (p == q) (leduc_rules.legal state.history p) (legal_at_move state p q at e) within
     by (Joint q) e l = absurd (omega arith)

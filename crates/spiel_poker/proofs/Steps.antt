@@ -5,6 +5,7 @@ use Rattle.std.specs.List.{Contains}
 use Rattle.std.proofs.lemmas.List.{length-drop, length-reverse, length-take-le, take_more}
 use Rattle.spiel_api.specs.Rules.{next_at, next_of}
 use Rattle.spiel_api.specs.Plays.{IsPlay}
+use Rattle.spiel_api.proofs.Members.{none_of_none}
 use Rattle.spiel_api.proofs.PlayLemmas.{IsPlay-take, IsPlay-last}
 use Rattle.spiel_poker.specs.declared.leduc.Round.{Round}
 use Rattle.spiel_poker.specs.declared.leduc.Round.TheVariants.{First, Second}
@@ -13,7 +14,7 @@ use Rattle.spiel_poker.specs.declared.betting.Table.{Table}
 use Rattle.spiel_api.specs.declared.place.Place.{Place}
 use Rattle.spiel_poker.specs.Betting.{in_turn, words_owed}
 use Rattle.spiel_poker.specs.Table.{IsTable, MaySpeak, seats}
-use Rattle.spiel_poker.specs.Leduc.{Parts, leduc_rules, parts, first_opening, second_opening, opening_by, opening_of, told_by, told, place_by, leduc_legal}
+use Rattle.spiel_poker.specs.Leduc.{Parts, leduc_rules, parts, first_opening, second_opening, opening_by, opening_of, told_by, told, place_by}
 use Rattle.spiel_poker.specs.LeducState.{ShowsParts, HasCards, IsLeducAt, front}
 use Rattle.spiel_poker.specs.Histories.{parts-few, parts-card, parts-last_card, parts-more, flat_by, flat_parts}
 use Rattle.spiel_poker.specs.LeducLaws.{sound_play, highest_low}
@@ -97,9 +98,6 @@ first_size x e = ap (λ (n : ℕ). (opening_by 2 n x.first).size) e
 pub second_size : (x : Parts) → x.round ≡ 2 → (opening_of 2 x).size ≡ 4
 second_size x e = ap (λ (n : ℕ). (opening_by 2 n x.first).size) e
 
-none_of_none : {P : Type 0} (a : ℕ) → Contains [] a → P
-none_of_none a c = absurd (omega (arith, c.1))
-
 -- there is a number only while both players are left
 line_open : (r owed : ℕ) (folded : Bool) (speaker : ℕ) (legal : ℕ → List ℕ) (a : ℕ) → Contains (next_at (place_by (suc r) (seats folded speaker) owed) legal) a → folded ≡ false
 line_open zero owed true speaker legal a c = none_of_none a c
@@ -113,20 +111,20 @@ word_owed r owed true speaker legal a c = none_of_none a c
 word_owed r zero false speaker legal a c = none_of_none a c
 word_owed r (suc owed) false speaker legal a c = omega arith
 
-next_here : (s : LeducState) (a r : ℕ) → IsLeducAt s → Contains (next_of leduc_rules s.history) a → (parts 2 s.history).round ≡ r → Contains (next_at (place_by r (seats s.table.folded s.table.speaker) s.table.owed) (leduc_legal 2 s.history)) a
+next_here : (s : LeducState) (a r : ℕ) → IsLeducAt s → Contains (next_of leduc_rules s.history) a → (parts 2 s.history).round ≡ r → Contains (next_at (place_by r (seats s.table.folded s.table.speaker) s.table.owed) (leduc_rules.legal s.history)) a
 next_here s a r at c e =
     let x = parts 2 s.history in
     let line = at.shows.table.line in
     let here = ap (λ (n : ℕ). place_by n (in_turn (opening_of 2 x).line x.words) (words_owed (opening_of 2 x).line x.words)) e
     ∙ ap (λ (l : List ℕ). place_by r l (words_owed (opening_of 2 x).line x.words)) line
     ∙ ap (λ (n : ℕ). place_by r (seats s.table.folded s.table.speaker) n) at.shows.table.owed in
-    subst (λ (place : Place). Contains (next_at place (leduc_legal 2 s.history)) a) here c
+    subst (λ (place : Place). Contains (next_at place (leduc_rules.legal s.history)) a) here c
 
 pub nobody_folded : (s : LeducState) (a r : ℕ) → IsLeducAt s → Contains (next_of leduc_rules s.history) a → (parts 2 s.history).round ≡ suc r → s.table.folded ≡ false
-nobody_folded s a r at c e = line_open r s.table.owed s.table.folded s.table.speaker (leduc_legal 2 s.history) a (next_here s a (suc r) at c e)
+nobody_folded s a r at c e = line_open r s.table.owed s.table.folded s.table.speaker (leduc_rules.legal s.history) a (next_here s a (suc r) at c e)
 
 pub second_owed : (s : LeducState) (a : ℕ) → IsLeducAt s → Contains (next_of leduc_rules s.history) a → (parts 2 s.history).round ≡ 2 → 0 < s.table.owed
-second_owed s a at c e = word_owed 0 s.table.owed s.table.folded s.table.speaker (leduc_legal 2 s.history) a (next_here s a 2 at c e)
+second_owed s a at c e = word_owed 0 s.table.owed s.table.folded s.table.speaker (leduc_rules.legal s.history) a (next_here s a 2 at c e)
 
 -- a word may be said
 pub speaks : (s : LeducState) (a r : ℕ) → IsLeducAt s → Contains (next_of leduc_rules s.history) a → (parts 2 s.history).round ≡ suc r → 0 < s.table.owed → MaySpeak s.table

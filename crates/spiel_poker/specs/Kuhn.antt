@@ -1,11 +1,12 @@
 -- Kuhn poker of two players (Kuhn 1950, "A simplified two-person poker"; the numbers and texts are this project's own).
 -- There are three cards, 0, 1 and 2, and each player antes 1. Chance deals a card to player 0 and one of the others to player 1.
 -- Then the players speak in turn. A history is the two cards, and then the words: 0 is a pass and 1 is a bet.
-use Rattle.std.specs.Prelude.{ℕ, zero, suc, ◌+◌, ℤ, pos, neg_ℤ, false, not, List, [], ◌∷◌, ◌++◌, Option, Some, None, map, codes, if◌then◌else◌, ◌==◌, nat_lt}
+use Rattle.std.specs.Prelude.{ℕ, zero, suc, ◌+◌, ℤ, pos, neg_ℤ, not, List, [], ◌∷◌, ◌++◌, Option, Some, None, map, codes, if◌then◌else◌, ◌==◌, nat_lt}
 use Rattle.std.specs.List.{filter}
 use Rattle.spiel_api.specs.declared.place.Place.{Place}
 use Rattle.spiel_api.specs.declared.place.Place.TheVariants.{End, Chance, Move}
 use Rattle.spiel_api.specs.Rules.{Rules}
+use Rattle.spiel_api.specs.Turns.{Turns, turn_rules}
 
 -- who speaks next after these words: player 0, then player 1, then player 0 again if a bet came after a pass
 abbrev pub speaker : List ℕ → Option ℕ
@@ -29,15 +30,11 @@ kuhn_place (first ∷ second ∷ words) = turn_of (speaker words)
 abbrev pub others : ℕ → List ℕ
 others card = filter (λ c. not (c == card)) (0 ∷ 1 ∷ 2 ∷ [])
 
--- pass and bet for the player who speaks next
-abbrev pub words_for : Option ℕ → ℕ → List ℕ
-words_for None p = []
-words_for (Some q) p = if p == q then 0 ∷ 1 ∷ [] else []
-
-abbrev pub kuhn_legal : List ℕ → ℕ → List ℕ
-kuhn_legal [] p = 0 ∷ 1 ∷ 2 ∷ []
-kuhn_legal (first ∷ []) p = others first
-kuhn_legal (first ∷ second ∷ words) p = words_for (speaker words) p
+-- the cards that chance can deal, and then pass and bet
+abbrev pub kuhn_numbers : List ℕ → List ℕ
+kuhn_numbers [] = 0 ∷ 1 ∷ 2 ∷ []
+kuhn_numbers (first ∷ []) = others first
+kuhn_numbers (first ∷ second ∷ words) = 0 ∷ 1 ∷ []
 
 -- each card is as likely as another
 abbrev pub kuhn_weights : List ℕ → List ℕ
@@ -86,16 +83,18 @@ kuhn_pay [] p = pos 0
 kuhn_pay (first ∷ []) p = pos 0
 kuhn_pay (first ∷ second ∷ words) p = if winner first second words == p then pos (loss words) else neg_ℤ (pos (loss words))
 
-abbrev pub kuhn_rules : Rules
-kuhn_rules = record {
+abbrev pub kuhn_turns : Turns
+kuhn_turns = record {
   players = 2;
   unit = 1;
   cap = 2;
-  one_shot = false;
   place = kuhn_place;
-  legal = kuhn_legal;
+  numbers = kuhn_numbers;
   weights = kuhn_weights;
   info = kuhn_info;
   name = kuhn_name;
   pay = kuhn_pay;
 }
+
+abbrev pub kuhn_rules : Rules
+kuhn_rules = turn_rules kuhn_turns

@@ -1,12 +1,13 @@
 -- Leduc poker (Southey et al. 2005, "Bayes' bluff: opponent modelling in poker"; the numbers and texts are this project's own).
 -- A history is a card for each player, the words of the first round, the public card, and the words of the second round.
 -- Cards, rounds and texts are those of n players. Who is paid what is that of two, and so are the rules of the game.
-use Rattle.std.specs.Prelude.{ℕ, zero, suc, ◌+◌, ◌-◌, ◌*◌, ◌/◌, ℤ, pos, neg_ℤ, false, List, [], ◌∷◌, ◌++◌, take, reverse, slice_index, Option, Some, None, map, codes, if◌then◌else◌, ◌==◌, nat_lt}
+use Rattle.std.specs.Prelude.{ℕ, zero, suc, ◌+◌, ◌-◌, ◌*◌, ◌/◌, ℤ, pos, neg_ℤ, List, [], ◌∷◌, ◌++◌, take, reverse, slice_index, Option, Some, None, map, codes, if◌then◌else◌, ◌==◌, nat_lt}
 use Rattle.std.specs.List.{filter}
 use Rattle.std.specs.Fmt.{decimal}
 use Rattle.spiel_api.specs.declared.place.Place.{Place}
 use Rattle.spiel_api.specs.declared.place.Place.TheVariants.{End, Chance, Move, Joint}
 use Rattle.spiel_api.specs.Rules.{Rules}
+use Rattle.spiel_api.specs.Turns.{Turns, turn_rules}
 use Rattle.spiel_api.specs.Walks.{is_in}
 use Rattle.spiel_api.specs.Deck.{numbers_below, cards_left}
 use Rattle.spiel_poker.specs.Betting.{Opening, in_turn, words_owed, highest_stake, stake_of, words_of, word_letter}
@@ -100,17 +101,17 @@ abbrev pub cards_for : ℕ → List ℕ → List ℕ
 cards_for n h = cards_left (card_count n) (take n h)
 
 -- chance has the cards, and whoever moves has the words
-abbrev pub numbers_at : Place → List ℕ → (ℕ → List ℕ) → ℕ → List ℕ
-numbers_at End cards words p = []
-numbers_at Chance cards words p = cards
-numbers_at (Move q) cards words p = if p == q then words q else []
-numbers_at (Joint q) cards words p = []
+abbrev pub numbers_at : Place → List ℕ → (ℕ → List ℕ) → List ℕ
+numbers_at End cards words = []
+numbers_at Chance cards words = cards
+numbers_at (Move q) cards words = words q
+numbers_at (Joint q) cards words = []
 
 abbrev pub words_at : ℕ → Parts → ℕ → List ℕ
 words_at n x p = words_of (opening_of n x) x.words p
 
-abbrev pub leduc_legal : ℕ → List ℕ → ℕ → List ℕ
-leduc_legal n h p = numbers_at (leduc_place n h) (cards_for n h) (words_at n (parts n h)) p
+abbrev pub leduc_numbers : ℕ → List ℕ → List ℕ
+leduc_numbers n h = numbers_at (leduc_place n h) (cards_for n h) (words_at n (parts n h))
 
 -- each card is as likely as another
 abbrev pub weights_at : Place → List ℕ → List ℕ
@@ -181,16 +182,18 @@ pay_at n h x p = pay_by
     (stake_of (opening_of n x) x.words)
     p
 
-abbrev pub leduc_rules : Rules
-leduc_rules = record {
+abbrev pub leduc_turns : Turns
+leduc_turns = record {
   players = 2;
   unit = 1;
   cap = 13;
-  one_shot = false;
   place = leduc_place 2;
-  legal = leduc_legal 2;
+  numbers = leduc_numbers 2;
   weights = leduc_weights 2;
   info = leduc_info 2;
   name = leduc_name 2;
   pay = λ h p. pay_at 2 h (parts 2 h) p;
 }
+
+abbrev pub leduc_rules : Rules
+leduc_rules = turn_rules leduc_turns

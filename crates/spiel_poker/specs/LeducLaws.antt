@@ -1,27 +1,27 @@
 -- Leduc poker keeps the laws.
-use Rattle.std.specs.Prelude.{◌≡◌, ◌≢◌, ℕ, zero, suc, ◌+◌, ◌-◌, ◌*◌, ◌^◌, ◌<◌, ◌≤◌, pos, neg_ℤ, Bool, true, false, List, [], ◌∷◌, ◌++◌, length, take, reverse, map, codes, nat_abs, Option, Some, None, sum, nat_lt, if◌then◌else◌, ◌==◌, slice_index}
-use Rattle.std.specs.List.{All, Contains, sum_by}
-use Rattle.std.specs.List.Sorted.{IsStrictlyIncreasing}
+use Rattle.std.specs.Prelude.{◌≡◌, ℕ, zero, suc, ◌+◌, ◌-◌, ◌*◌, ◌<◌, ◌≤◌, pos, neg_ℤ, Bool, true, false, List, [], ◌∷◌, ◌++◌, length, take, reverse, codes, nat_abs, Option, Some, None, nat_lt, if◌then◌else◌, ◌==◌, slice_index}
+use Rattle.std.specs.List.{All, Contains}
 use Rattle.std.specs.Fmt.{decimal}
-use Rattle.std.proofs.Common.{refl, arith, subst, sym, ap, ◌∙◌, inl, inr, ◌⊎◌, length-append}
+use Rattle.std.proofs.Common.{refl, arith, subst, sym, ap, inl, inr, ◌⊎◌, length-append}
 use Rattle.std.proofs.lemmas.Int.{ints}
-use Rattle.std.proofs.lemmas.Bool.{false≢true, ltb-true, ne_eqb, eq-eqb, cases_lt}
-use Rattle.std.proofs.lemmas.Fmt.{decimal_digit}
+use Rattle.std.proofs.lemmas.Bool.{ltb-true, cases_lt}
 use Rattle.std.proofs.lemmas.List.{length-map, length-drop, length-reverse, length-take}
-use Rattle.std.proofs.lemmas.List.Elements.{All-nil, All-cons, All-append, All-filter, All-contains, All-weaker, All-map, All-head}
-use Rattle.std.proofs.lemmas.List.Sums.{sum-map, sum_by-cons, length-filter, count_by-le-length}
+use Rattle.std.proofs.lemmas.List.Elements.{All-filter, All-contains, All-map, All-head}
+use Rattle.std.proofs.lemmas.List.Sums.{length-filter, count_by-le-length}
 use Rattle.spiel_api.specs.declared.place.Place.{Place}
 use Rattle.spiel_api.specs.declared.place.Place.TheVariants.{End, Chance, Move, Joint}
-use Rattle.spiel_api.specs.Rules.{next_at, next_of}
+use Rattle.spiel_api.specs.Rules.{next_of}
 use Rattle.spiel_api.specs.Plays.{IsPlay}
 use Rattle.spiel_api.specs.Walks.{is_in}
-use Rattle.spiel_api.specs.Place.{IsAmongPlayers, IsOpen, IsOutside, HasInfo}
-use Rattle.spiel_api.specs.Laws.{IsLawful, IsPrintable, HasLegalNumbers, HasChanceWeights}
-use Rattle.spiel_api.proofs.LawLemmas.{All-computed, IsStrictlyIncreasing-computed, IsPrintable-computed, without_joint_steps}
+use Rattle.spiel_api.specs.Laws.{IsLawful, IsPrinted, IsPrintable}
+use Rattle.spiel_api.proofs.LawLemmas.{All-computed, IsPrintable-append, IsPrintable-computed, decimal_printable}
+use Rattle.spiel_api.proofs.Members.{none_of_none}
+use Rattle.spiel_api.proofs.NodeLaws.{AreChoices, AreChoices-computed, AreChoices-left, AreWeights-ones}
+use Rattle.spiel_api.proofs.TurnLaws.{IsTurn, next_numbers, turns_lawful}
 use Rattle.spiel_api.specs.Deck.{numbers_below, cards_left}
 use Rattle.spiel_poker.specs.Betting.{raise_count, in_turn, words_owed, highest_stake, stake_of, words_for, word_letter}
-use Rattle.spiel_poker.specs.Leduc.{Parts, first_opening, second_opening, opening_by, opening_of, told_by, told, no_round, no_word, parts, place_in, place_by, place_at, leduc_place, cards_for, numbers_at, words_at, leduc_legal, weights_at, leduc_weights, letters, round_texts, leduc_info, leduc_name, card_name, bet_name, name_at, pay_by, pay_at, winner_in, better_card, leduc_rules}
-use Rattle.spiel_api.proofs.CardsLeft.{left_rise, left_low, left_at_least, left_at_most}
+use Rattle.spiel_poker.specs.Leduc.{Parts, first_opening, second_opening, opening_by, opening_of, told_by, told, no_round, no_word, parts, place_in, place_by, place_at, leduc_place, cards_for, numbers_at, words_at, leduc_numbers, weights_at, leduc_weights, letters, round_texts, leduc_info, leduc_name, card_name, bet_name, name_at, pay_by, pay_at, winner_in, better_card, leduc_turns, leduc_rules}
+use Rattle.spiel_api.proofs.CardsLeft.{left_below, left_low, left_at_most}
 use Rattle.spiel_poker.specs.Rounds.{all_in_turn, owed_count, IsRound, no_words, one_word, fair_word, stake_high}
 use Rattle.spiel_poker.specs.Histories.{parts-card, parts-last_card, parts-more, flat_by, flat_parts}
 use Rattle.spiel_api.proofs.Inductions.{along}
@@ -56,85 +56,24 @@ kind_by (suc (suc r)) line owed low = kind_in line owed End low tt
 kind_of : (x : Parts) → IsKind (place_at 2 x)
 kind_of x = kind_by x.round (in_turn (opening_of 2 x).line x.words) (words_owed (opening_of 2 x).line x.words) (all_in_turn (λ p. p < 2) (opening_of 2 x).line x.words (line_low x.round x.first))
 
--- what holds at a deal, at the turn of each player and at the end holds at every history
-everywhere : (P : Place → (ℕ → List ℕ) → List ℕ → Type 0) → ((dealt : List ℕ) → length dealt ≤ 2 → P Chance (λ p. cards_left 6 dealt) (map (λ card. 1) (cards_left 6 dealt))) → ((q : ℕ) → q < 2 → (may_fold may_raise : Bool) → P (Move q) (λ p. if p == q then words_for may_fold may_raise else []) []) → P End (λ p. []) [] → (h : List ℕ) → P (leduc_place 2 h) (leduc_legal 2 h) (leduc_weights 2 h)
-everywhere P deal turn over h = by (leduc_place 2 h) (kind_of (parts 2 h))
-  where
-    by : (place : Place) → IsKind place → P place (numbers_at place (cards_for 2 h) (words_at 2 (parts 2 h))) (weights_at place (cards_for 2 h))
-    by End kind = over
-    by Chance kind = deal (take 2 h) (omega (arith, length-take 2 h))
-    by (Move q) kind = turn q kind _ _
-    by (Joint q) kind = absurd kind
-
--- what holds of each list of words, and of none, holds of the words of every player
-of_words : (P : List ℕ → Type 0) → ((may_fold may_raise : Bool) → P (words_for may_fold may_raise)) → P [] → (q p : ℕ) (may_fold may_raise : Bool) → P (if p == q then words_for may_fold may_raise else [])
-of_words P each none q p may_fold may_raise = by (p == q)
-  where
-    by : (b : Bool) → P (if b then words_for may_fold may_raise else [])
-    by true = each may_fold may_raise
-    by false = none
-
-words_small : (may_fold may_raise : Bool) → All (λ a. a < 6) (words_for may_fold may_raise)
-words_small true true = All-computed (λ a. a < 6) (λ a. nat_lt a 6) (λ a. ltb-true a 6) (0 ∷ 1 ∷ 2 ∷ []) refl
-words_small true false = All-computed (λ a. a < 6) (λ a. nat_lt a 6) (λ a. ltb-true a 6) (0 ∷ 1 ∷ []) refl
-words_small false true = All-computed (λ a. a < 6) (λ a. nat_lt a 6) (λ a. ltb-true a 6) (1 ∷ 2 ∷ []) refl
-words_small false false = All-computed (λ a. a < 6) (λ a. nat_lt a 6) (λ a. ltb-true a 6) (1 ∷ []) refl
-
-words_rise : (may_fold may_raise : Bool) → IsStrictlyIncreasing (words_for may_fold may_raise)
-words_rise true true = IsStrictlyIncreasing-computed (0 ∷ 1 ∷ 2 ∷ []) refl
-words_rise true false = IsStrictlyIncreasing-computed (0 ∷ 1 ∷ []) refl
-words_rise false true = IsStrictlyIncreasing-computed (1 ∷ 2 ∷ []) refl
-words_rise false false = IsStrictlyIncreasing-computed (1 ∷ []) refl
-
-some_word : (may_fold may_raise : Bool) → 0 < length (words_for may_fold may_raise)
-some_word true true = omega arith
-some_word true false = omega arith
-some_word false true = omega arith
-some_word false false = omega arith
-
-nothing_rises : IsStrictlyIncreasing []
-nothing_rises = IsStrictlyIncreasing-computed [] refl
-
--- each legal number is below 6
-leduc_small : (h : List ℕ) (p : ℕ) → All (λ a. a < 6) (leduc_legal 2 h p)
-leduc_small h p = everywhere (λ place legal weights. All (λ a. a < 6) (legal p)) (λ dealt l. left_low 6 dealt)
-    (λ q l f m. of_words (All (λ a. a < 6)) words_small (All-nil (λ a. a < 6)) q p f m) (All-nil (λ a. a < 6)) h
+words_choices : (may_fold may_raise : Bool) → AreChoices (words_for may_fold may_raise)
+words_choices true true = AreChoices-computed (0 ∷ 1 ∷ 2 ∷ []) refl
+words_choices true false = AreChoices-computed (0 ∷ 1 ∷ []) refl
+words_choices false true = AreChoices-computed (1 ∷ 2 ∷ []) refl
+words_choices false false = AreChoices-computed (1 ∷ []) refl
 
 -- a card is left for every deal
-some_card : (dealt : List ℕ) → length dealt ≤ 2 → 0 < length (cards_left 6 dealt)
-some_card dealt l = omega (arith, left_at_least 6 dealt)
+turns : (h : List ℕ) → IsTurn 2 (leduc_place 2 h) (leduc_numbers 2 h) (leduc_weights 2 h)
+turns h = by (leduc_place 2 h) (kind_of (parts 2 h))
+  where
+    left : AreChoices (cards_for 2 h)
+    left = AreChoices-left 6 (take 2 h) (omega arith) (omega (arith, length-take 2 h))
 
-legal_numbers : HasLegalNumbers leduc_rules
-legal_numbers = record {
-  mover = λ h play. everywhere (λ place legal weights. IsAmongPlayers 2 place) (λ dealt l. tt) (λ q l f m. l) tt h;
-  rises = λ h p play m. everywhere (λ place legal weights. IsStrictlyIncreasing (legal p)) (λ dealt l. left_rise 6 dealt)
-      (λ q l f m. of_words IsStrictlyIncreasing words_rise nothing_rises q p f m) nothing_rises h;
-  small = λ h p play m. All-weaker (λ a. a < 6) (λ a. a < 2 ^ 32 - 1) (λ x m. omega arith) (leduc_legal 2 h p) (leduc_small h p);
-  goes_on = λ h play. everywhere (λ place legal weights. IsOpen place → 0 < length (next_at place legal)) (λ dealt l o. some_card dealt l)
-      (λ q l f m o. rw (eq-eqb q q refl) (some_word f m)) (λ o. absurd o) h;
-  stops = λ h p play m. everywhere (λ place legal weights. place ≡ End → legal p ≡ []) (λ dealt l e. cc) (λ q l f m e. cc) (λ e. refl) h;
-  waits = λ h p q play m. everywhere (λ place legal weights. place ≡ Move q → p ≢ q → legal p ≡ []) (λ dealt l e. cc)
-      (λ r l f m e n. rw (ne_eqb p r (λ same. n cc)) refl) (λ e n. refl) h;
-  shared = λ h p q play m n. everywhere (λ place legal weights. place ≡ Chance → legal p ≡ legal q) (λ dealt l e. refl) (λ r l f m e. cc) (λ e. cc) h;
-}
-
-leduc_alone : (h : List ℕ) (p : ℕ) → IsPlay leduc_rules h → leduc_place 2 h ≡ Joint p → ⊥
-leduc_alone h p play = everywhere (λ place legal weights. place ≡ Joint p → ⊥) (λ dealt l e. cc) (λ q l f m e. cc) (λ e. cc) h
-
--- as many ones add up to their number
-ones : (xs : List ℕ) → sum_by (λ x. 1) xs ≡ length xs
-ones [] = refl
-ones (x ∷ xs) = omega (arith, sum_by-cons (λ (x : ℕ). 1) x xs, ones xs)
-
-sum_of_ones : (cards : List ℕ) → sum (map (λ card. 1) cards) ≡ length cards
-sum_of_ones cards = sum-map (λ card. 1) cards ∙ ones cards
-
-chance_weights : HasChanceWeights leduc_rules
-chance_weights = record {
-  weighed = λ h play. everywhere (λ place legal weights. place ≡ Chance → length weights ≡ length (next_at place legal)) (λ dealt l e. length-map (cards_left 6 dealt) (λ card. 1)) (λ q l f m e. cc) (λ e. cc) h;
-  weight_low = λ h play. everywhere (λ place legal weights. place ≡ Chance → 1 ≤ sum weights) (λ dealt l e. rw (sum_of_ones (cards_left 6 dealt)) (some_card dealt l)) (λ q l f m e. cc) (λ e. cc) h;
-  weight_high = λ h play. everywhere (λ place legal weights. place ≡ Chance → sum weights ≤ 2 ^ 62) (λ dealt l e. rw (sum_of_ones (cards_left 6 dealt)) (omega (arith, left_at_most 6 dealt))) (λ q l f m e. cc) (λ e. cc) h;
-}
+    by : (place : Place) → IsKind place → IsTurn 2 place (numbers_at place (cards_for 2 h) (words_at 2 (parts 2 h))) (weights_at place (cards_for 2 h))
+    by End kind = tt
+    by Chance kind = (left, AreWeights-ones (cards_for 2 h) left.some (omega (arith, left_at_most 6 (take 2 h))))
+    by (Move q) kind = (kind, words_choices _ _)
+    by (Joint q) kind = absurd kind
 
 -- what is so of the parts of every play: few raises, and few words
 pub record IsSound (x : Parts) : Type 0 where
@@ -176,22 +115,19 @@ sound_public x a l sound = record {
   round = no_words (opening_by 2 2 x.words).line (line_short 2 x.words);
 }
 
-none_of_none : {P : Type 0} (a : ℕ) → Contains [] a → P
-none_of_none a c = absurd (omega (arith, c.1))
-
-sound_by : (r : ℕ) (x : Parts) (a : ℕ) (cards line : List ℕ) (owed : ℕ) → x.round ≡ r → words_owed (opening_of 2 x).line x.words ≡ owed → owed ≤ length line → All (λ c. c < 6) cards → Contains (next_at (place_by r line owed) (numbers_at (place_by r line owed) cards (words_at 2 x))) a → IsSound x → IsSound (told_by r owed x a)
+sound_by : (r : ℕ) (x : Parts) (a : ℕ) (cards line : List ℕ) (owed : ℕ) → x.round ≡ r → words_owed (opening_of 2 x).line x.words ≡ owed → owed ≤ length line → All (λ c. c < 6) cards → Contains (numbers_at (place_by r line owed) cards (words_at 2 x)) a → IsSound x → IsSound (told_by r owed x a)
 sound_by zero x a cards line owed e o l low c sound = sound
 sound_by (suc zero) x a cards [] zero e o l low c sound = sound_public x a (All-contains (λ c. c < 6) cards a low c) sound
 sound_by (suc zero) x a cards [] (suc owed) e o l low c sound = absurd (omega arith)
 sound_by (suc zero) x a cards (p ∷ []) owed e o l low c sound = none_of_none a c
 sound_by (suc zero) x a cards (p ∷ q ∷ others) zero e o l low c sound = sound_public x a (All-contains (λ c. c < 6) cards a low c) sound
-sound_by (suc zero) x a cards (p ∷ q ∷ others) (suc owed) e o l low c sound = sound_word 1 x a e (omega arith) p (rw (eq-eqb p p refl) at c) sound
+sound_by (suc zero) x a cards (p ∷ q ∷ others) (suc owed) e o l low c sound = sound_word 1 x a e (omega arith) p c sound
 sound_by (suc (suc r)) x a cards [] owed e o l low c sound = none_of_none a c
 sound_by (suc (suc r)) x a cards (p ∷ []) owed e o l low c sound = none_of_none a c
 sound_by (suc (suc r)) x a cards (p ∷ q ∷ others) zero e o l low c sound = none_of_none a c
-sound_by (suc (suc r)) x a cards (p ∷ q ∷ others) (suc owed) e o l low c sound = sound_word (suc (suc r)) x a e (omega arith) p (rw (eq-eqb p p refl) at c) sound
+sound_by (suc (suc r)) x a cards (p ∷ q ∷ others) (suc owed) e o l low c sound = sound_word (suc (suc r)) x a e (omega arith) p c sound
 
-sound_told : (x : Parts) (a : ℕ) (cards : List ℕ) → All (λ c. c < 6) cards → Contains (next_at (place_at 2 x) (numbers_at (place_at 2 x) cards (words_at 2 x))) a → IsSound x → IsSound (told 2 x a)
+sound_told : (x : Parts) (a : ℕ) (cards : List ℕ) → All (λ c. c < 6) cards → Contains (numbers_at (place_at 2 x) cards (words_at 2 x)) a → IsSound x → IsSound (told 2 x a)
 sound_told x a cards low c sound =
     sound_by x.round x a cards (in_turn (opening_of 2 x).line x.words) (words_owed (opening_of 2 x).line x.words) refl refl (owed_count (opening_of 2 x).line x.words) low c sound
 
@@ -208,7 +144,7 @@ sound_play = along leduc_rules (λ h. IsSound (parts 2 h)) more sound_root
         by : (length h + 1 < 2) ⊎ (2 ≤ length h + 1) → (length h < 2) ⊎ (2 ≤ length h) → IsSound (parts 2 (h ++ a ∷ []))
         by (inl few) other = subst IsSound (sym (parts-card 2 h a few)) sound_no_round
         by (inr one) (inl last) = subst IsSound (sym (parts-last_card 2 h a (omega arith))) sound_no_word
-        by (inr one) (inr both) = subst IsSound (sym (parts-more 2 h a both)) (sound_told (parts 2 h) a (cards_for 2 h) (left_low 6 (take 2 h)) c sound)
+        by (inr one) (inr both) = subst IsSound (sym (parts-more 2 h a both)) (sound_told (parts 2 h) a (cards_for 2 h) (left_low 6 (take 2 h)) (next_numbers (leduc_place 2 h) (leduc_numbers 2 h) a c) sound)
 
 -- how many numbers a play has
 flat_long : (r : ℕ) (x : Parts) → IsSound x → length (flat_by r x) ≤ 13
@@ -260,20 +196,8 @@ leduc_capped h p play = by (winner_in (in_turn (opening_of 2 (parts 2 h)).line (
     by (Some w) = paid (w == p) _ _ (stake_low (parts 2 h) (1 - p) (sound_play h play)) (stake_low (parts 2 h) p (sound_play h play))
 
 -- texts
-abbrev IsPrinted : ℕ → Type 0
-IsPrinted b = (32 ≤ b) × (b ≤ 126)
-
-printable-append : (m n most : ℕ) (xs ys : List ℕ) → m + n ≤ most → IsPrintable m xs → IsPrintable n ys → IsPrintable most (xs ++ ys)
-printable-append m n most xs ys l first second = record {
-  short = omega (arith, length-append xs ys, first.short, second.short);
-  ascii = All-append IsPrinted xs ys first.ascii second.ascii;
-}
-
 printable_card : (c : ℕ) → c < 6 → IsPrintable 1 (decimal c)
-printable_card c l = rw (decimal_digit c (omega arith)) (record {
-  short = omega arith;
-  ascii = All-cons IsPrinted (48 + c) [] (omega arith, omega arith) (All-nil IsPrinted);
-})
+printable_card c l = decimal_printable 1 c (omega arith) (omega arith) (omega arith)
 
 letter_printed : (a : ℕ) → IsPrinted (word_letter a)
 letter_printed zero = (omega arith, omega arith)
@@ -294,10 +218,10 @@ printable_rounds zero x sound = let t = printable_letters x.words (short_words x
 printable_rounds (suc zero) x sound = let t = printable_letters x.words (short_words x sound) in record { short = omega (arith, t.short); ascii = t.ascii }
 printable_rounds (suc (suc r)) x sound =
     let first = printable_letters x.first sound.long in
-    let with_slash = printable-append 6 1 7 (letters x.first) (codes "/") (omega arith) first (IsPrintable-computed 1 (codes "/") refl refl) in
-    let with_card = printable-append 7 1 8 (letters x.first ++ codes "/") (decimal x.public) (omega arith) with_slash (printable_card x.public sound.public) in
-    let with_colon = printable-append 8 1 9 (letters x.first ++ codes "/" ++ decimal x.public) (codes ":") (omega arith) with_card (IsPrintable-computed 1 (codes ":") refl refl) in
-    printable-append 9 6 15 (letters x.first ++ codes "/" ++ decimal x.public ++ codes ":") (letters x.words) (omega arith) with_colon (printable_letters x.words (short_words x sound))
+    let with_slash = IsPrintable-append 6 1 7 (letters x.first) (codes "/") (omega arith) first (IsPrintable-computed 1 (codes "/") refl refl) in
+    let with_card = IsPrintable-append 7 1 8 (letters x.first ++ codes "/") (decimal x.public) (omega arith) with_slash (printable_card x.public sound.public) in
+    let with_colon = IsPrintable-append 8 1 9 (letters x.first ++ codes "/" ++ decimal x.public) (codes ":") (omega arith) with_card (IsPrintable-computed 1 (codes ":") refl refl) in
+    IsPrintable-append 9 6 15 (letters x.first ++ codes "/" ++ decimal x.public ++ codes ":") (letters x.words) (omega arith) with_colon (printable_letters x.words (short_words x sound))
 
 -- the players' cards
 own_card : (c d : ℕ) (said : List ℕ) (p : ℕ) → IsPlay leduc_rules (c ∷ d ∷ said) → p < 2 → slice_index (c ∷ d ∷ said) p < 6
@@ -306,54 +230,39 @@ own_card c d said zero play l = All-contains (λ a. a < 6) (cards_left 6 []) c (
 own_card c d said (suc zero) play l = All-contains (λ a. a < 6) (cards_left 6 (c ∷ [])) d (left_low 6 (c ∷ [])) play.steps.1.0
 own_card c d said (suc (suc p)) play l = absurd (omega arith)
 
-leduc_infos : (h : List ℕ) (p : ℕ) → IsPlay leduc_rules h → HasInfo (leduc_place 2 h) p → p < 2 → IsPrintable 32768 (leduc_info 2 h p)
+leduc_infos : (h : List ℕ) (p : ℕ) → IsPlay leduc_rules h → leduc_place 2 h ≡ Move p → IsPrintable 32768 (leduc_info 2 h p)
 unfolding parts
-leduc_infos [] p play has l = absurd has
-leduc_infos (c ∷ []) p play has l = absurd has
-leduc_infos (c ∷ d ∷ said) p play has l =
+leduc_infos [] p play turn = cc
+leduc_infos (c ∷ []) p play turn = cc
+leduc_infos (c ∷ d ∷ said) p play turn =
+    let l : p < 2 = subst IsKind turn (kind_of (parts 2 (c ∷ d ∷ said))) in
     let h : List ℕ = c ∷ d ∷ said in
-    let with_colon = printable-append 1 1 2 (decimal (slice_index h p)) (codes ":") (omega arith) (printable_card (slice_index h p) (own_card c d said p play l)) (IsPrintable-computed 1 (codes ":") refl refl) in
-    printable-append 2 15 32768 (decimal (slice_index h p) ++ codes ":") (round_texts (parts 2 h).round (parts 2 h)) (omega arith) with_colon (printable_rounds (parts 2 h).round (parts 2 h) (sound_play h play))
+    let with_colon = IsPrintable-append 1 1 2 (decimal (slice_index h p)) (codes ":") (omega arith) (printable_card (slice_index h p) (own_card c d said p play l)) (IsPrintable-computed 1 (codes ":") refl refl) in
+    IsPrintable-append 2 15 32768 (decimal (slice_index h p) ++ codes ":") (round_texts (parts 2 h).round (parts 2 h)) (omega arith) with_colon (printable_rounds (parts 2 h).round (parts 2 h) (sound_play h play))
 
 printable_deal : (a : ℕ) → a < 6 → IsPrintable 128 (card_name a)
-printable_deal a l = printable-append 5 1 128 (codes "deal ") (decimal a) (omega arith) (IsPrintable-computed 5 (codes "deal ") refl refl) (printable_card a l)
+printable_deal a l = IsPrintable-append 5 1 128 (codes "deal ") (decimal a) (omega arith) (IsPrintable-computed 5 (codes "deal ") refl refl) (printable_card a l)
 
 printable_bet : (a : ℕ) → IsPrintable 128 (bet_name a)
 printable_bet zero = IsPrintable-computed 128 (codes "fold") refl refl
 printable_bet (suc zero) = IsPrintable-computed 128 (codes "call") refl refl
 printable_bet (suc (suc a)) = IsPrintable-computed 128 (codes "raise") refl refl
 
-leduc_names : (h : List ℕ) (p a : ℕ) → IsPlay leduc_rules h → Contains (leduc_legal 2 h p) a → IsPrintable 128 (leduc_name 2 h p a)
-leduc_names h p a play c = by (leduc_place 2 h)
+leduc_names : (h : List ℕ) (p a : ℕ) → Contains (leduc_numbers 2 h) a → IsPrintable 128 (leduc_name 2 h p a)
+leduc_names h p a = by (leduc_place 2 h)
   where
-    by : (place : Place) → IsPrintable 128 (name_at place a)
-    by End = printable_bet a
-    by Chance = printable_deal a (All-contains (λ a. a < 6) (leduc_legal 2 h p) a (leduc_small h p) c)
-    by (Move q) = printable_bet a
-    by (Joint q) = printable_bet a
-
-outside_root : IsOutside (leduc_place 2 [])
-unfolding parts
-outside_root = tt
+    by : (place : Place) → Contains (numbers_at place (cards_for 2 h) (words_at 2 (parts 2 h))) a → IsPrintable 128 (name_at place a)
+    by End c = printable_bet a
+    by Chance c = printable_deal a (left_below 6 (take 2 h) a c)
+    by (Move q) c = printable_bet a
+    by (Joint q) c = printable_bet a
 
 pub leduc_lawful : IsLawful leduc_rules
-leduc_lawful = record {
-  limits = record {
-    players_low = omega arith;
-    players_high = omega arith;
-    unit_low = omega arith;
-    unit_high = omega arith;
-    cap_low = omega arith;
-    cap_high = omega arith;
-    short = λ h play. omega (arith, leduc_short h play);
-  };
-  numbers = legal_numbers;
-  chance = chance_weights;
-  joint = without_joint_steps leduc_rules outside_root leduc_alone;
-  texts = record {
-    infos = leduc_infos;
-    names = leduc_names;
-  };
+leduc_lawful = turns_lawful leduc_turns (record {
+  size = refl;
+  short = λ h play. omega (arith, leduc_short h play);
+  turns = λ h play. turns h;
+  infos = leduc_infos;
+  names = λ h p a play c. leduc_names h p a c;
   capped = λ h p play e l. leduc_capped h p play;
-  one_shot = λ o. absurd (false≢true o);
-}
+})

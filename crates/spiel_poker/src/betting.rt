@@ -1,4 +1,4 @@
-//! The round of words that is on at a table of two players.
+//! A round of fold, call and raise between two players: who speaks next, and what each has paid.
 ghost use Rattle.std.specs.Prelude.{◌≡◌, ◌<◌, ◌≤◌, ℕ, List, ◌∷◌, length, slice_index, nat_lt};
 ghost use Rattle.spiel_api.specs.declared.place.Place.{Place};
 ghost use Rattle.spiel_poker.specs.Betting.{Opening, words_for};

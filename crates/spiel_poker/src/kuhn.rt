@@ -263,10 +263,8 @@ impl Game for Kuhn {
     }
 
     fn copy(&self, alloc: Global, state: &KuhnState) -> Result<KuhnState, NoMemory> {
-        let mut history = List::new(alloc);
-        history.extend(state.history.items())?;
         Ok(KuhnState {
-            history,
+            history: state.history.copy(alloc)?,
             first: state.first,
             second: state.second,
             stage: state.stage,

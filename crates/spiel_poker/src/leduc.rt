@@ -406,10 +406,8 @@ impl Game for Leduc {
     }
 
     fn copy(&self, alloc: Global, state: &LeducState) -> Result<LeducState, NoMemory> {
-        let mut history = List::new(alloc);
-        history.extend(state.history.items())?;
         Ok(LeducState {
-            history,
+            history: state.history.copy(alloc)?,
             round: state.round,
             public: state.public,
             public_at: state.public_at,

@@ -1,4 +1,4 @@
-use Rattle.std.proofs.Common.{◌≡◌, ℕ, zero, suc, List, [], length, Option, Some, None, Bor, Bool, true}
+use Rattle.std.proofs.Common.{◌≡◌, ℕ, zero, suc, List, length, Option, Some, None, Bor, Bool, true}
 use Rattle.std.specs.Option.{is_some}
 use Rattle.spiel_frac.specs.Listed.{numbers_between}
 use Rattle.spiel_frac.proofs.listing.are_numbers.Given as goal

@@ -2,7 +2,7 @@ use Rattle.std.proofs.Common.{List, ℕ, map, take, drop, ap, sym, subst, ◌∙
 use Rattle.std.proofs.lemmas.List.{map-append}
 use Rattle.spiel_frac.specs.Adding.{AddsPart}
 use Rattle.spiel_poker.specs.Betting.{word_letter}
-use Rattle.spiel_poker.proofs.Texts.{adds_failed, part_front, part_whole}
+use Rattle.spiel_frac.proofs.AddedTexts.{adds_failed, part_front, part_whole}
 use Rattle.spiel_poker.proofs.leduc.write_letters.Goals as goal
 
 -- the letters so far

@@ -1,8 +1,8 @@
-use Rattle.std.proofs.Common.{◌∙◌, ◌++◌, ℕ, List, ap, sym, take, drop, take-append-drop, append_assoc, arith}
+use Rattle.std.proofs.Common.{◌∙◌, ◌++◌, List, ℕ, refl, subst, arith}
 use Rattle.std.specs.Prelude.{codes, flat_map}
-use Rattle.std.proofs.lemmas.List.Concat.{flat_map-append}
-use Rattle.std.proofs.lemmas.Result.{err_from_is_err_and}
 use Rattle.std.proofs.lemmas.Grind.{common_steps}
+use Rattle.spiel_frac.specs.Adding.{AddsPart}
+use Rattle.spiel_frac.proofs.AddedTexts.{adds_failed, part_behind, part_of_texts}
 use Rattle.spiel_board.specs.TicTacToe.{move_text}
 use Rattle.spiel_board.proofs.Boards.{cell_at}
 use Rattle.spiel_board.proofs.tic_tac_toe.TicTacToeGame.info.Goals as goal
@@ -17,16 +17,13 @@ overflow_add-cell c =
 
 pub returns-in_err-push-2 : goal.returns-in_err-push-2
 returns-in_err-push-2 c =
-    let p = err_from_is_err_and c.from_residual-in_err-push-2.result c.from_residual-in_err-push-2.ensures.1 in
-    let h = c.items-cell-items.result.now in
-    let k = c.loop-cell.cell-index in
-    rw p.1 record {
-      part = codes "moves" ++ flat_map move_text (take k h);
-      rest = flat_map move_text (drop k h);
-      whole = ap (λ (xs : List ℕ). codes "moves" ++ flat_map move_text xs) (sym c.items-cell-items.ensures ∙ sym (take-append-drop k h))
-          ∙ ap (λ (text : List ℕ). codes "moves" ++ text) (flat_map-append move_text (take k h) (drop k h));
-      added = c.in_err-push-2.ensures.err ∙ c.loop-cell.invariant ∙ append_assoc c.args.out.now (codes "moves") (flat_map move_text (take k h));
-    }
+    let moved = c.args.out.now ++ codes "moves" in
+    let new = c.push-in-loop-cell.new.self in
+    let cells = c.items-cell-items.result.now in
+    adds_failed c.from_residual-in_err-push-2.result _ _ _ c.from_residual-in_err-push-2.ensures.0
+    (part_behind c.args.out.now moved new (codes "moves") (flat_map move_text c.args.state.now.history) refl
+    (subst (λ (xs : List ℕ). AddsPart moved new (flat_map move_text xs)) c.items-cell-items.ensures
+    (part_of_texts move_text cells c.loop-cell.cell-index moved new (c.in_err-push-2.ensures.err ∙ c.loop-cell.invariant))))
 
 pub loop-cell-preserved : goal.loop-cell-preserved
 loop-cell-preserved c = grind (arith, common_steps)

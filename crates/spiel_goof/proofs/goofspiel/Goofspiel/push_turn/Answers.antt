@@ -1,7 +1,8 @@
 use Rattle.std.proofs.Common.{◌≡◌, ℕ, List, ◌++◌, codes, ap, sym, subst, ◌∙◌, append_assoc}
 use Rattle.spiel_frac.specs.Adding.{Adds, AddsPart}
 use Rattle.spiel_goof.specs.Goofspiel.{bid_of, other_text, turn_text}
-use Rattle.spiel_goof.proofs.Texts.{adds_failed, part_front, part_behind, adds_last, turn_pieces, card_piece, other_piece}
+use Rattle.spiel_frac.proofs.AddedTexts.{adds_behind, adds_failed, part_front, part_behind}
+use Rattle.spiel_goof.proofs.Texts.{turn_pieces, card_piece, other_piece}
 use Rattle.spiel_goof.proofs.goofspiel.Goofspiel.push_turn.Goals as goal
 
 -- a front of the point card
@@ -48,4 +49,4 @@ returns c =
     c.in_ok-push_card-2.ensures ∙ ap (λ (card : ℕ). first ++ card_piece card) c.bid-own.ensures ∙ ap (λ (text : List ℕ). text ++ own) c.in_ok-push_card.ensures ∙ append_assoc old point own in
     let by_own = subst (λ (card : ℕ). Adds c.push_other.result mid new (other_text hidden card c.bid-other.result ++ codes " ")) c.bid-own.ensures c.push_other.ensures in
     let last = subst (λ (card : ℕ). Adds c.push_other.result mid new (other_text hidden (bid_of p turn) card ++ codes " ")) c.bid-other.ensures by_own in
-    subst (Adds c.push_other.result old new) (sym (turn_pieces hidden p turn)) (adds_last c.push_other.result old mid new (point ++ own) (other_piece hidden p turn) before last)
+    subst (Adds c.push_other.result old new) (sym (turn_pieces hidden p turn)) (adds_behind c.push_other.result old mid new (point ++ own) (other_piece hidden p turn) before last)

@@ -8,7 +8,7 @@ use Rattle.spiel_goof.specs.Goofspiel.{turn_text, stage_text, info_at}
 use Rattle.spiel_goof.specs.GoofspielPlays.{IsTurnOf, IsStageOf}
 use Rattle.spiel_goof.specs.GoofspielState.{parts_of}
 use Rattle.spiel_goof.proofs.Growth.{state_sound, wide_turns, wide_stage}
-use Rattle.spiel_goof.proofs.Texts.{adds_failed, part_front}
+use Rattle.spiel_frac.proofs.AddedTexts.{adds_failed, part_front}
 use Rattle.spiel_goof.proofs.goofspiel.GoofspielGame.info.Goals as goal
 
 pub push_turns-requires-clause-cards : goal.push_turns-requires-clause-cards

@@ -2,7 +2,7 @@ use Rattle.std.proofs.Common.{◌++◌, List, ℕ, Option, [], sym, subst}
 use Rattle.std.proofs.lemmas.Result.{err_from_is_err_and}
 use Rattle.spiel_frac.specs.Adding.{AddsPart}
 use Rattle.spiel_layers.specs.Repeated.{at_piece, before_piece, rounds_told}
-use Rattle.spiel_layers.proofs.RoundsTold.{part_of_front}
+use Rattle.spiel_frac.proofs.AddedTexts.{part_front}
 use Rattle.spiel_layers.proofs.repeated.RepeatedGame.info.Goals as goal
 
 -- a front of what is told of earlier rounds was added
@@ -16,4 +16,4 @@ returns-in_err-push_told g c =
     let told : AddsPart c.args.out.now c.push_told.new.out (rounds_told (before_piece state.history h)) =
     subst (λ (numbers : List ℕ). AddsPart c.args.out.now c.push_told.new.out (rounds_told numbers)) c.past.ensures c.in_err-push_told.ensures in
     rw error.1 (subst (λ (o : Option (List ℕ)). AddsPart c.args.out.now c.push_told.new.out (at_piece [] (λ piece. rounds_told (before_piece state.history piece) ++ s.info piece c.args.player) o))
-    (sym c.if-is_open.ensures) (part_of_front c.args.out.now c.push_told.new.out (rounds_told (before_piece state.history h)) (s.info h c.args.player) told))
+    (sym c.if-is_open.ensures) (part_front c.args.out.now c.push_told.new.out (rounds_told (before_piece state.history h)) (s.info h c.args.player) told))

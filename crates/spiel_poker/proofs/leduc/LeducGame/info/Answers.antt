@@ -3,7 +3,7 @@ use Rattle.std.specs.Prelude.{slice_index}
 use Rattle.std.specs.Fmt.{decimal}
 use Rattle.spiel_frac.specs.Adding.{AddsPart}
 use Rattle.spiel_poker.specs.Leduc.{parts, round_texts}
-use Rattle.spiel_poker.proofs.Texts.{adds_failed, part_front, adds_last}
+use Rattle.spiel_frac.proofs.AddedTexts.{adds_failed, part_front, adds_behind}
 use Rattle.spiel_poker.proofs.leduc.LeducGame.info.Goals as goal
 
 -- the card, or a front of it
@@ -22,4 +22,4 @@ returns c =
     let card = decimal (slice_index h c.args.player) ++ codes ":" in
     let rounds = round_texts (parts 2 h).round (parts 2 h) in
     let before = c.in_ok-write_card.ensures ∙ ap (λ (xs : List ℕ). c.args.out.now ++ (decimal (slice_index xs c.args.player) ++ codes ":")) c.items.ensures in
-    adds_last c.write_rounds.result c.args.out.now c.write_card.new.out c.write_rounds.new.out card rounds before c.write_rounds.ensures
+    adds_behind c.write_rounds.result c.args.out.now c.write_card.new.out c.write_rounds.new.out card rounds before c.write_rounds.ensures

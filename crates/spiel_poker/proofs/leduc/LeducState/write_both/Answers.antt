@@ -3,7 +3,7 @@ use Rattle.std.specs.Fmt.{decimal}
 use Rattle.spiel_frac.specs.Adding.{Adds, AddsPart}
 use Rattle.spiel_poker.specs.Betting.{word_letter}
 use Rattle.spiel_poker.specs.Leduc.{parts, letters, round_texts}
-use Rattle.spiel_poker.proofs.Texts.{adds_failed, part_front, part_whole, part_behind, adds_last}
+use Rattle.spiel_frac.proofs.AddedTexts.{adds_failed, part_front, part_whole, part_behind, adds_behind}
 use Rattle.spiel_poker.proofs.leduc.LeducState.write_both.Goals as goal
 
 -- a front of the first round's letters
@@ -62,4 +62,4 @@ returns c =
     ∙ append_assoc old (letters x.first ++ codes "/") (decimal x.public ++ codes ":")
     ∙ ap (λ (xs : List ℕ). old ++ xs) (sym (append_assoc (letters x.first ++ codes "/") (decimal x.public) (codes ":"))) in
     let last = subst (λ (xs : List ℕ). Adds c.write_letters-2.result c.write_card.new.out c.write_letters-2.new.out (map word_letter xs)) c.second_words.ensures c.write_letters-2.ensures in
-    adds_last c.write_letters-2.result old c.write_card.new.out c.write_letters-2.new.out before (letters x.words) card last
+    adds_behind c.write_letters-2.result old c.write_card.new.out c.write_letters-2.new.out before (letters x.words) card last
