@@ -6,6 +6,7 @@ use Rattle.std.specs.Option.{option_and_then}
 use Rattle.std.specs.Io.KnownBytes.{append_known}
 use Rattle.spiel_io.specs.Outside.{Files, SinkState, held}
 use Rattle.spiel_io.specs.Plan.{Plan, Give, Refuse, Ask, ◌>>=◌, Reaches, decided}
+use Rattle.spiel_io.specs.declared.calls.FetchFault.TheVariants.{TooLong}
 use Rattle.spiel_io.proofs.Reached.{quiet_first}
 use Rattle.spiel_api.specs.Rules.{Rules}
 use Rattle.spiel_string.specs.Answer.{reading}
@@ -17,28 +18,27 @@ use Rattle.spiel_tree.specs.Trees.{Whole, tree_fault, tree_of}
 use Rattle.spiel_tree.specs.PerfectRecall.{HasPerfectRecall}
 use Rattle.spiel_response.specs.BestResponses.{nash_conv_of}
 use Rattle.spiel_response.specs.Values.{Judged, NumbersFit, denominator_of}
+use Rattle.spiel_response.specs.declared.fault.JudgeFault.TheVariants.{Overflow}
 use Rattle.spiel_policy.specs.Profiles.{Fits, Profile}
 use Rattle.spiel_policy.specs.Reading.{policy_of}
 use Rattle.spiel_words.specs.declared.command.Command.{Command}
 use Rattle.spiel_words.specs.declared.command.Command.TheVariants.{Judge}
 use Rattle.spiel_words.specs.Verbs.{command_of}
 use Rattle.spiel_cli.specs.Case.{Case, case_of, case_plan, game_case, history_limit, policy_case}
-use Rattle.spiel_cli.specs.Deciding.{decide, file_limit, named_file, unless, written}
+use Rattle.spiel_cli.specs.Deciding.{decide, file_limit, named_file, unless}
 use Rattle.spiel_cli.specs.Judgement.{AreOfCase, HasJudged, IsAnswered, IsOfGame, IsReport, IsReportBy, IsRight, IsSaidBy, Judges}
 use Rattle.spiel_cli.specs.Named.{NamedGame, with_rules}
 use Rattle.spiel_cli.specs.Outcome.{outcome_of, plan_by, plan_of}
 use Rattle.spiel_cli.specs.Policies.{chosen, chosen_by, file_profile, name_of}
-use Rattle.spiel_cli.specs.Refusal.{of_load, of_policy, of_string, of_tree, status_of}
-use Rattle.spiel_cli.specs.Report.{judge_plan, report_text, reported}
+use Rattle.spiel_cli.specs.Reports.{case_report, judge_plan, report_text}
 use Rattle.spiel_cli.specs.Run.{Completes, IsWritten, Knows}
 use Rattle.spiel_cli.specs.Value.{numbers_fit}
 use Rattle.spiel_cli.specs.declared.case.Case.{Case as CodeCase}
-use Rattle.spiel_cli.specs.declared.done.Done.{Done}
 use Rattle.spiel_cli.specs.declared.policies.NamedPolicy.{NamedPolicy}
 use Rattle.spiel_cli.specs.declared.refusal.Refusal.{Refusal}
-use Rattle.spiel_cli.specs.declared.refusal.Refusal.TheVariants.{Usage, Read, Bad, Unjudged, Unfit, Overflow, NoMemory}
-use Rattle.spiel_cli.specs.declared.refusal.BadInput.TheVariants.{FileTooLong}
+use Rattle.spiel_cli.specs.declared.refusal.Refusal.TheVariants.{File, GameString, Judging, Loading, PolicyFile, Tree}
 use Rattle.spiel_cli.proofs.Completion.{known_decided}
+use Rattle.spiel_cli.proofs.Refusals.{refusal_said}
 
 -- ---- what was given, of what is reached
 pub decide_gave : {A F : Type 0} (refusal : F → Refusal) (r : Result A F) (told : Option Files) (a : A) → Reaches (decide refusal r) told (Ok a) → r ≡ Ok a
@@ -58,8 +58,8 @@ game_given word text rules (Ok case) reads named same judgeable tree = record {
 game_given word text rules (Err e) reads named same judgeable tree = tt
 
 -- the report on the case that was read
-pub report_given : (game policy : List ℕ) (brief : Bool) (told : Option Files) (case : CodeCase) (r : Result Done Refusal) → IsOfGame game (case_of case) → Reaches (case_plan game policy) told (Ok (case_of case))
-    → Fits case.tree case.policy → IfOk r (λ done. done ≡ written (report_text brief (case_of case))) → IfOk r (λ done. IsRight (case_of case).judged) → IfOk r (IsReport game policy brief told)
+pub report_given : (game policy : List ℕ) (brief : Bool) (told : Option Files) (case : CodeCase) (r : Result (List ℕ) Refusal) → IsOfGame game (case_of case) → Reaches (case_plan game policy) told (Ok (case_of case))
+    → Fits case.tree case.policy → IfOk r (λ text. text ≡ report_text brief (case_of case)) → IfOk r (λ text. IsRight (case_of case).judged) → IfOk r (IsReport game policy brief told)
 report_given game policy brief told case (Ok done) of_game comes complete is right = record { case = case_of case; of_game = of_game; comes = comes; complete = complete; is = is; right = right }
 report_given game policy brief told case (Err e) of_game comes complete is right = tt
 
@@ -84,26 +84,17 @@ made_right tree j now (Ok done) whole same recall answered gap denominator fits 
 made_right tree j now (Err e) whole same recall answered gap denominator fits = tt
 
 -- ---- the report that was printed
-no_refusal_done : (e : Refusal) → 2 ≤ status_of e
-no_refusal_done Usage = omega arith
-no_refusal_done Read = omega arith
-no_refusal_done (Bad bad) = omega arith
-no_refusal_done (Unjudged fault) = omega arith
-no_refusal_done (Unfit unfit) = omega arith
-no_refusal_done Overflow = omega arith
-no_refusal_done NoMemory = omega arith
-
-pub has_judged : (game policy : List ℕ) (brief : Bool) (told : Option Files) (answer : Result Done Refusal) (status : ℕ) (out out' err err' : SinkState)
+pub has_judged : (game policy : List ℕ) (brief : Bool) (told : Option Files) (answer : Result (List ℕ) Refusal) (status : ℕ) (out out' err err' : SinkState)
     → IfOk answer (IsReport game policy brief told) → IsWritten answer status out out' err err' → status ≡ 0 → HasJudged game policy brief told out out' err err'
 has_judged game policy brief told (Ok done) status out out' err err' h (inl w) zero = record {
   case = h.case;
   of_game = h.of_game;
   comes = h.comes;
   complete = h.complete;
-  judges = record { printed = subst (λ (d : Done). out'.taken ≡ append_known out.taken d.out) h.is w.1; silent = w.3.0; right = h.right };
+  judges = record { printed = subst (λ (text : List ℕ). out'.taken ≡ append_known out.taken text) h.is w.1; silent = w.3.0; right = h.right };
 }
 has_judged game policy brief told (Ok done) status out out' err err' h (inr w) zero = absurd (omega (arith, w.0, zero))
-has_judged game policy brief told (Err e) status out out' err err' h (same, inl w) zero = absurd (let late = no_refusal_done e in omega (arith, late, w.0, zero))
+has_judged game policy brief told (Err e) status out out' err err' h (same, inl w) zero = absurd (let late = (refusal_said e).low in omega (arith, late, w.0, zero))
 has_judged game policy brief told (Err e) status out out' err err' h (same, inr w) zero = absurd (omega (arith, w.0, zero))
 
 -- ---- what is decided, part by part
@@ -125,9 +116,9 @@ file_decided : (word bytes : List ℕ) (files : Files) (tree : Whole) (profile :
     → decided (named_file word >>= file_profile tree) files ≡ Some (Ok profile)
 file_decided word bytes files tree profile there short gives =
     let gave : decided (named_file word) files ≡ Some (Ok bytes) =
-    subst (λ (o : Option (List ℕ)). option_and_then (λ bytes. decided (if nat_lt file_limit (length bytes) then Refuse (Bad FileTooLong) else Give bytes) files) o ≡ Some (Ok bytes)) (sym there)
-    (subst (λ (b : Bool). decided (if b then Refuse (Bad FileTooLong) else Give bytes) files ≡ Some (Ok bytes)) (sym (le-ltb file_limit (length bytes) short)) refl) in
-    decided_then (file_profile tree) files (named_file word) bytes gave ∙ decided_given (of_policy tree) (policy_of tree bytes) files profile gives
+    subst (λ (o : Option (List ℕ)). option_and_then (λ bytes. decided (if nat_lt file_limit (length bytes) then Refuse (File TooLong) else Give bytes) files) o ≡ Some (Ok bytes)) (sym there)
+    (subst (λ (b : Bool). decided (if b then Refuse (File TooLong) else Give bytes) files ≡ Some (Ok bytes)) (sym (le-ltb file_limit (length bytes) short)) refl) in
+    decided_then (file_profile tree) files (named_file word) bytes gave ∙ decided_given PolicyFile (policy_of tree bytes) files profile gives
 
 policy_decided : (name : Option NamedPolicy) (word : List ℕ) (files : Files) (tree : Whole) (profile : Profile) → IsSaidBy name word files tree profile
     → decided (chosen_by name word tree) files ≡ Some (Ok profile)
@@ -143,15 +134,15 @@ case_decided game policy files case h =
     let chose : decided (chosen policy tree) files ≡ Some (Ok case.judged.profile) = policy_decided (name_of policy) policy files tree case.judged.profile h.of_policy in
     let last : decided (policy_case policy case.text tree) files ≡ Some (Ok case) = decided_then _ files (chosen policy tree) case.judged.profile chose in
     let of_tree_decided : decided (game_case policy named) files ≡ Some (Ok case) =
-    subst (λ (o : Option TreeFault). decided (unless of_tree o (policy_case policy case.text (tree_of rules))) files ≡ Some (Ok case)) (sym h.of_game.judgeable)
+    subst (λ (o : Option TreeFault). decided (unless Tree o (policy_case policy case.text (tree_of rules))) files ≡ Some (Ok case)) (sym h.of_game.judgeable)
     (subst (λ (t : Whole). decided (policy_case policy case.text t) files ≡ Some (Ok case)) h.of_game.tree last) in
     let of_rules : decided (with_rules case.text (game_case policy)) files ≡ Some (Ok case) =
-    decided_then _ files (decide of_load (named_game case.text)) rules (decided_given of_load (named_game case.text) files rules h.of_game.named) ∙ of_tree_decided in
-    decided_then _ files (decide of_string (reading game)) case.text (decided_given of_string (reading game) files case.text h.of_game.reads) ∙ of_rules
+    decided_then _ files (decide Loading (named_game case.text)) rules (decided_given Loading (named_game case.text) files rules h.of_game.named) ∙ of_tree_decided in
+    decided_then _ files (decide GameString (reading game)) case.text (decided_given GameString (reading game) files case.text h.of_game.reads) ∙ of_rules
 
-report_decided : (brief : Bool) (files : Files) (case : Case) → numbers_fit case.judged ≡ true → decided (reported brief case) files ≡ Some (Ok (written (report_text brief case)))
+report_decided : (brief : Bool) (files : Files) (case : Case) → numbers_fit case.judged ≡ true → decided (case_report brief case) files ≡ Some (Ok (report_text brief case))
 report_decided brief files case fits =
-    subst (λ (b : Bool). decided (if b then Give (written (report_text brief case)) else Refuse Overflow) files ≡ Some (Ok (written (report_text brief case)))) (sym fits) refl
+    subst (λ (b : Bool). decided (if b then Give (report_text brief case) else Refuse (Judging Overflow)) files ≡ Some (Ok (report_text brief case))) (sym fits) refl
 
 -- ---- the report comes
 known_first : {A B E : Type 0} (plan : Plan A E) (next : A → Plan B E) (told : Option Files) (files : Files) → Knows told (plan >>= next) files → Knows told plan files
@@ -162,19 +153,19 @@ module _ (game policy : List ℕ) (brief : Bool) (told : Option Files) (files : 
   -- what was judged is the case of the words
   pub judged_case : Knows told (judge_plan game policy brief) files → AreOfCase game policy files case → HasJudged game policy brief told out out' err err' → Judges brief case out out' err err'
   judged_case known given h =
-      let one : decided (case_plan game policy) files ≡ Some (Ok h.case) = known_decided (case_plan game policy) told files (Ok h.case) (known_first (case_plan game policy) (reported brief) told files known) h.comes in
+      let one : decided (case_plan game policy) files ≡ Some (Ok h.case) = known_decided (case_plan game policy) told files (Ok h.case) (known_first (case_plan game policy) (case_report brief) told files known) h.comes in
       let other : decided (case_plan game policy) files ≡ Some (Ok case) = case_decided game policy files case given in
       let same : h.case ≡ case = cc in
       subst (λ (c : Case). Judges brief c out out' err err') same h.judges
 
   pub judged_status : AreOfCase game policy files case → numbers_fit case.judged ≡ true → (outcome_of (decided (judge_plan game policy brief) files)).status ≡ 0
   judged_status given fits =
-      let all : decided (judge_plan game policy brief) files ≡ Some (Ok (written (report_text brief case))) =
-      decided_then (reported brief) files (case_plan game policy) case (case_decided game policy files case given) ∙ report_decided brief files case fits in
+      let all : decided (judge_plan game policy brief) files ≡ Some (Ok (report_text brief case)) =
+      decided_then (case_report brief) files (case_plan game policy) case (case_decided game policy files case given) ∙ report_decided brief files case fits in
       ap (λ d. (outcome_of d).status) all
 
 -- status 0 after `judge` comes with a report
-pub judged_told : (words : List (List ℕ)) (game policy : List ℕ) (brief : Bool) (told : Option Files) (answer : Result Done Refusal) → command_of words ≡ Some (Judge game policy brief)
+pub judged_told : (words : List (List ℕ)) (game policy : List ℕ) (brief : Bool) (told : Option Files) (answer : Result (List ℕ) Refusal) → command_of words ≡ Some (Judge game policy brief)
     → IfSome (command_of words) (λ command. IfOk answer (IsReportBy command told)) → IfOk answer (IsReport game policy brief told)
 judged_told words game policy brief told answer is h = subst (λ (o : Option Command). IfSome o (λ command. IfOk answer (IsReportBy command told))) is h
 

@@ -9,9 +9,9 @@ use Rattle.spiel_response.specs.Values.{Judged}
 use Rattle.spiel_cli.specs.Deciding.{unless}
 use Rattle.spiel_cli.specs.Named.{NamedGame, with_game}
 use Rattle.spiel_cli.specs.Policies.{chosen}
-use Rattle.spiel_cli.specs.Refusal.{of_tree}
 use Rattle.spiel_cli.specs.declared.case.Case.{Case as CodeCase}
 use Rattle.spiel_cli.specs.declared.refusal.Refusal.{Refusal}
+use Rattle.spiel_cli.specs.declared.refusal.Refusal.TheVariants.{Tree}
 
 -- how many histories a game may have that is judged
 abbrev pub history_limit : ℕ
@@ -28,7 +28,7 @@ case_of case = record { text = view case.text; judged = record { tree = case.tre
 
 -- the tree of a game, where it can be judged
 abbrev pub with_tree : {A : Type 0} → Rules → (Whole → Plan A Refusal) → Plan A Refusal
-with_tree rules next = unless of_tree (tree_fault rules history_limit) (next (tree_of rules))
+with_tree rules next = unless Tree (tree_fault rules history_limit) (next (tree_of rules))
 
 -- a policy for a tree
 abbrev pub policy_case : List ℕ → Game → Whole → Plan Case Refusal

@@ -16,10 +16,9 @@ use Rattle.spiel_response.specs.Values.{Judged, NumbersFit, denominator_of}
 use Rattle.spiel_words.specs.declared.command.Command.{Command}
 use Rattle.spiel_words.specs.declared.command.Command.TheVariants.{Judge}
 use Rattle.spiel_cli.specs.Case.{Case, case_plan, history_limit}
-use Rattle.spiel_cli.specs.Deciding.{file_limit, written}
+use Rattle.spiel_cli.specs.Deciding.{file_limit}
 use Rattle.spiel_cli.specs.Policies.{name_of, profile_of}
-use Rattle.spiel_cli.specs.Report.{report_text}
-use Rattle.spiel_cli.specs.declared.done.Done.{Done}
+use Rattle.spiel_cli.specs.Reports.{report_text}
 use Rattle.spiel_cli.specs.declared.policies.NamedPolicy.{NamedPolicy}
 
 -- ---- of which game and policy
@@ -74,18 +73,18 @@ pub record IsRight (j : Judged) : Type 0 where
 -- ---- what is given
 -- What `judge` gives: the report on a game that can be judged and a complete policy for it. The game is that of the word, and
 -- over the files that are told so is the policy.
-pub record IsReport (game policy : List ℕ) (brief : Bool) (told : Option Files) (done : Done) : Type 0 where
+pub record IsReport (game policy : List ℕ) (brief : Bool) (told : Option Files) (text : List ℕ) : Type 0 where
   pub case : Case
   pub of_game : IsOfGame game case
   pub comes : Reaches (case_plan game policy) told (Ok case)
   pub complete : Fits case.judged.tree case.judged.profile
-  pub is : done ≡ written (report_text brief case)
+  pub is : text ≡ report_text brief case
   pub right : IsRight case.judged
 
 -- what a command gives, where it is `judge`
-abbrev pub IsReportBy : Command → Option Files → Done → Type 0
-IsReportBy (Judge game policy brief) told done = IsReport game policy brief told done
-IsReportBy command told done = ⊤
+abbrev pub IsReportBy : Command → Option Files → List ℕ → Type 0
+IsReportBy (Judge game policy brief) told text = IsReport game policy brief told text
+IsReportBy command told text = ⊤
 
 -- ---- what a run leaves
 -- the report on this case was printed, with nothing else and no message; and it is right

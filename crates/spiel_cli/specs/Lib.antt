@@ -8,7 +8,7 @@ pub mod Outcome
 pub mod Policies
 pub mod Policy
 pub mod Refusal
-pub mod Report
+pub mod Reports
 pub mod Restore
 pub mod Run
 pub mod Save

@@ -6,8 +6,8 @@ use Rattle.spiel_string.specs.Answer.{reading}
 use Rattle.spiel_string.specs.Game.{Game}
 use Rattle.spiel_load.specs.Named.{named_game}
 use Rattle.spiel_cli.specs.Deciding.{decide}
-use Rattle.spiel_cli.specs.Refusal.{of_load, of_string}
 use Rattle.spiel_cli.specs.declared.refusal.Refusal.{Refusal}
+use Rattle.spiel_cli.specs.declared.refusal.Refusal.TheVariants.{GameString, Loading}
 
 -- a game with the string that names it
 pub record NamedGame : Type 0 where
@@ -16,8 +16,8 @@ pub record NamedGame : Type 0 where
 
 -- the game that a string names, and what is decided by it
 abbrev pub with_rules : {A : Type 0} → Game → (NamedGame → Plan A Refusal) → Plan A Refusal
-with_rules text next = decide of_load (named_game text) >>= λ rules. next (record { text = text; rules = rules })
+with_rules text next = decide Loading (named_game text) >>= λ rules. next (record { text = text; rules = rules })
 
 -- the game that a word names, and what is decided by it
 abbrev pub with_game : {A : Type 0} → List ℕ → (NamedGame → Plan A Refusal) → Plan A Refusal
-with_game word next = decide of_string (reading word) >>= λ text. with_rules text next
+with_game word next = decide GameString (reading word) >>= λ text. with_rules text next

@@ -1,25 +1,26 @@
 -- What the words come to, over the files: it knows nothing of faults, of memory or of loops.
-use Rattle.std.specs.Prelude.{ℕ, List, [], Option, Some, None, Result, Ok, Err, if◌then◌else◌}
+use Rattle.std.specs.Prelude.{ℕ, List, [], Option, Some, None, Result, Ok, Err}
 use Rattle.spiel_io.specs.Outside.{Files}
 use Rattle.spiel_io.specs.Plan.{Plan, Refuse, decided}
+use Rattle.spiel_io.specs.declared.calls.FetchFault.TheVariants.{Read}
 use Rattle.spiel_cli.specs.Refusal.{message_of, status_of}
 use Rattle.spiel_cli.specs.Policies.{files_in}
 use Rattle.spiel_cli.specs.Policy.{policy_plan}
 use Rattle.spiel_cli.specs.Legal.{legal_plan}
-use Rattle.spiel_cli.specs.Report.{judge_plan}
+use Rattle.spiel_cli.specs.Reports.{judge_plan}
 use Rattle.spiel_cli.specs.Restore.{restore_plan}
 use Rattle.spiel_cli.specs.Save.{save_plan}
 use Rattle.spiel_cli.specs.Show.{show_plan}
 use Rattle.spiel_cli.specs.Value.{value_plan}
 use Rattle.spiel_words.specs.Verbs.{command_of}
 use Rattle.spiel_words.specs.declared.command.Command.{Command}
+use Rattle.spiel_words.specs.declared.fault.WordsFault.TheVariants.{Usage}
 use Rattle.spiel_words.specs.declared.command.Command.TheVariants.{Judge, Legal, Policy, Restore, Save, Show, Value}
-use Rattle.spiel_cli.specs.declared.done.Done.{Done}
 use Rattle.spiel_cli.specs.declared.refusal.Refusal.{Refusal}
-use Rattle.spiel_cli.specs.declared.refusal.Refusal.TheVariants.{Usage, Read}
+use Rattle.spiel_cli.specs.declared.refusal.Refusal.TheVariants.{Words, File}
 
 -- what a command decides
-abbrev pub command_plan : Command → Plan Done Refusal
+abbrev pub command_plan : Command → Plan (List ℕ) Refusal
 command_plan (Restore file) = restore_plan file
 command_plan (Save game list) = save_plan game list
 command_plan (Legal game list) = legal_plan game list
@@ -28,12 +29,12 @@ command_plan (Value game policy) = value_plan game policy
 command_plan (Policy game policy) = policy_plan game policy
 command_plan (Judge game policy brief) = judge_plan game policy brief
 
-abbrev pub plan_by : Option Command → Plan Done Refusal
-plan_by None = Refuse Usage
+abbrev pub plan_by : Option Command → Plan (List ℕ) Refusal
+plan_by None = Refuse (Words Usage)
 plan_by (Some command) = command_plan command
 
 -- what the words ask for, in which order, and what is decided by it
-abbrev pub plan_of : List (List ℕ) → Plan Done Refusal
+abbrev pub plan_of : List (List ℕ) → Plan (List ℕ) Refusal
 plan_of words = plan_by (command_of words)
 
 -- how many names of files a command has
@@ -64,14 +65,10 @@ pub record Outcome : Type 0 where
 abbrev pub refused : Refusal → Outcome
 refused refusal = record { out = []; err = message_of refusal; status = status_of refusal }
 
--- 0, or 1 where a difference was found
-abbrev pub done_status : Done → ℕ
-done_status done = if done.same then 0 else 1
-
 -- the outcome of what was decided; nothing is decided where a name that is asked for isn't there
-abbrev pub outcome_of : Option (Result Done Refusal) → Outcome
-outcome_of None = refused Read
-outcome_of (Some (Ok done)) = record { out = done.out; err = []; status = done_status done }
+abbrev pub outcome_of : Option (Result (List ℕ) Refusal) → Outcome
+outcome_of None = refused (File Read)
+outcome_of (Some (Ok text)) = record { out = text; err = []; status = 0 }
 outcome_of (Some (Err refusal)) = refused refusal
 
 abbrev pub outcome : List (List ℕ) → Files → Outcome

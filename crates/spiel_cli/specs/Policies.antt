@@ -6,10 +6,10 @@ use Rattle.spiel_tree.specs.Trees.{Whole}
 use Rattle.spiel_policy.specs.Profiles.{Profile, first_profile, uniform_profile}
 use Rattle.spiel_policy.specs.Reading.{policy_of}
 use Rattle.spiel_cli.specs.Deciding.{decide, named_file}
-use Rattle.spiel_cli.specs.Refusal.{of_policy}
 use Rattle.spiel_cli.specs.declared.policies.NamedPolicy.{NamedPolicy}
 use Rattle.spiel_cli.specs.declared.policies.NamedPolicy.TheVariants.{First, Uniform}
 use Rattle.spiel_cli.specs.declared.refusal.Refusal.{Refusal}
+use Rattle.spiel_cli.specs.declared.refusal.Refusal.TheVariants.{PolicyFile}
 
 -- the policy of a name
 unfoldable pub name_of : List ℕ → Option NamedPolicy
@@ -25,7 +25,7 @@ profile_of First tree = first_profile tree
 
 -- the profile that a policy file gives for a tree
 abbrev pub file_profile : Whole → List ℕ → Plan Profile Refusal
-file_profile tree bytes = decide (of_policy tree) (policy_of tree bytes)
+file_profile tree bytes = decide PolicyFile (policy_of tree bytes)
 
 -- the profile of a file of this name
 abbrev pub from_file : List ℕ → Whole → Plan Profile Refusal

@@ -4,13 +4,12 @@ use Rattle.std.specs.Fmt.{decimal}
 use Rattle.spiel_frac.specs.Fraction.{frac_text, lowest_terms, most}
 use Rattle.spiel_io.specs.Plan.{Plan, Give, Refuse, ◌>>=◌}
 use Rattle.spiel_response.specs.Values.{Judged, denominator_of, size_below, value_of}
+use Rattle.spiel_response.specs.declared.fault.JudgeFault.TheVariants.{Overflow}
 use Rattle.spiel_play.specs.Block.{below, ended, lines_text}
 use Rattle.spiel_play.specs.Facts.{title_line}
 use Rattle.spiel_cli.specs.Case.{Case, case_plan}
-use Rattle.spiel_cli.specs.Deciding.{written}
-use Rattle.spiel_cli.specs.declared.done.Done.{Done}
 use Rattle.spiel_cli.specs.declared.refusal.Refusal.{Refusal}
-use Rattle.spiel_cli.specs.declared.refusal.Refusal.TheVariants.{Overflow}
+use Rattle.spiel_cli.specs.declared.refusal.Refusal.TheVariants.{Judging}
 
 -- what a player gets on average, in lowest terms
 abbrev pub value_text : Judged → ℕ → List ℕ
@@ -32,9 +31,9 @@ abbrev pub values_text : Case → List ℕ
 values_text case = ended (title_line case.text) ++ lines_text (value_lines case.judged)
 
 -- the values, where the numbers fit
-abbrev pub valued : Case → Plan Done Refusal
-valued case = if numbers_fit case.judged then Give (written (values_text case)) else Refuse Overflow
+abbrev pub case_values : Case → Plan (List ℕ) Refusal
+case_values case = if numbers_fit case.judged then Give (values_text case) else Refuse (Judging Overflow)
 
 -- `value GAME POLICY`
-abbrev pub value_plan : List ℕ → List ℕ → Plan Done Refusal
-value_plan game policy = case_plan game policy >>= valued
+abbrev pub value_plan : List ℕ → List ℕ → Plan (List ℕ) Refusal
+value_plan game policy = case_plan game policy >>= case_values

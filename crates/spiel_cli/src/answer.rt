@@ -1,3 +1,4 @@
+//! Does what words say, up to the writing.
 ghost use Rattle.std.specs.Prelude.{None, Some, IfOk, IfSome, map, string_bytes};
 ghost use Rattle.spiel_io.specs.Plan.{BeginsAtMost, Follows};
 ghost use Rattle.spiel_words.specs.Verbs.{command_of};
@@ -5,7 +6,6 @@ ghost use Rattle.spiel_cli.specs.Judgement.{IsReportBy};
 ghost use Rattle.spiel_cli.specs.Outcome.{command_names, command_plan, names_in, plan_by, plan_of};
 ghost use Rattle.spiel_cli.specs.Refusal.{kind_of};
 
-use crate::done::Done;
 use crate::judge::judge;
 use crate::legal::legal;
 use crate::policy::policy;
@@ -14,6 +14,7 @@ use crate::restore::restore;
 use crate::save::save;
 use crate::show::show;
 use crate::value::values;
+use spiel_frac::Text;
 use spiel_io::Shelf;
 use spiel_words::{Command, read_words};
 use std::alloc::Global;
@@ -23,7 +24,7 @@ fn answer_command<F: Shelf>(
     alloc: Global,
     command: &Command,
     shelf: &mut F,
-) -> Result<Done, Refusal>
+) -> Result<Text, Refusal>
     ensures follows { Follows kind_of (command_plan command.now) (F.state shelf.old) (F.state shelf.new) result }
     ensures report { IfOk result (IsReportBy command.now (F.state shelf.old).files) }
     ensures begins { BeginsAtMost (command_names command.now) 1 (F.state shelf.old) (F.state shelf.new) }
@@ -47,11 +48,11 @@ fn answer_command<F: Shelf>(
 }
 
 /// Does what the words say, up to the writing.
-pub fn answer<F: Shelf>(alloc: Global, words: &[String], shelf: &mut F) -> Result<Done, Refusal>
+pub fn answer<F: Shelf>(alloc: Global, words: &[String], shelf: &mut F) -> Result<Text, Refusal>
     ensures follows { Follows kind_of (plan_of (map string_bytes words.now)) (F.state shelf.old) (F.state shelf.new) result }
     ensures report { IfSome (command_of (map string_bytes words.now)) (λ command. IfOk result (IsReportBy command (F.state shelf.old).files)) }
     ensures begins { BeginsAtMost (names_in (map string_bytes words.now)) 1 (F.state shelf.old) (F.state shelf.new) }
 {
-    let command = read_words(alloc, words)?;
+    let command = read_words(alloc, words).map_err(Refusal::Words)?;
     answer_command(alloc, &command, shelf)
 }

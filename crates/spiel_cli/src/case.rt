@@ -10,7 +10,7 @@ ghost use Rattle.spiel_cli.specs.Judgement.{IsOfGame};
 ghost use Rattle.spiel_cli.specs.Policies.{files_in};
 ghost use Rattle.spiel_cli.specs.Refusal.{kind_of};
 
-use crate::named::{load_named, read_word};
+use crate::named::{load_named, read_game_string};
 use crate::policies::choose_policy;
 use crate::refusal::Refusal;
 use spiel_api::Game;
@@ -47,7 +47,10 @@ fn game_policy<F: Shelf, G: Game>(
     ensures fits { IfOk result (λ case. Fits case.tree case.policy) }
     ensures begins { BeginsAtMost (files_in policy.now) 0 (F.state shelf.old) (F.state shelf.new) }
 {
-    let tree = build(alloc, &game, HISTORY_LIMIT)?;
+    let tree = match build(alloc, &game, HISTORY_LIMIT) {
+        Ok(tree) => tree,
+        Err(fault) => return Err(Refusal::Tree(fault)),
+    };
     let policy = choose_policy(alloc, shelf, &tree, policy)?;
     Ok(Case { text, tree, policy })
 }
@@ -64,7 +67,7 @@ pub fn read_case<F: Shelf>(
     ensures fits { IfOk result (λ case. Fits case.tree case.policy) }
     ensures begins { BeginsAtMost (files_in policy.now) 0 (F.state shelf.old) (F.state shelf.new) }
 {
-    let text = read_word(alloc, game)?;
+    let text = read_game_string(alloc, game)?;
     let game = load_named(alloc, &text)?;
     game_policy(alloc, shelf, game, text, policy)
 }

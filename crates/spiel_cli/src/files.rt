@@ -13,13 +13,10 @@ use std::alloc::Global;
 const FILE_LIMIT: usize = 67_108_864;
 
 /// All bytes of a file that the words name.
-pub fn read_named<F: Shelf>(alloc: Global, shelf: &mut F, name: &[u8]) -> Result<Text, Refusal>
+pub fn read_file<F: Shelf>(alloc: Global, shelf: &mut F, name: &[u8]) -> Result<Text, Refusal>
     ensures follows { Follows kind_of (named_file name.now) (F.state shelf.old) (F.state shelf.new) result }
     ensures short { IfOk result (λ bytes. length bytes ≤ file_limit) }
     ensures begins { BeginsAtMost 1 0 (F.state shelf.old) (F.state shelf.new) }
 {
-    match fetch(alloc, shelf, Slot::Main, name, FILE_LIMIT) {
-        Ok(text) => Ok(text),
-        Err(fault) => Err(Refusal::from(fault)),
-    }
+    fetch(alloc, shelf, Slot::Main, name, FILE_LIMIT).map_err(Refusal::File)
 }

@@ -1,14 +1,14 @@
+//! The verb `legal`: what may be chosen after a play.
 ghost use Rattle.std.specs.Prelude.{None};
 ghost use Rattle.spiel_io.specs.Plan.{Agrees};
-ghost use Rattle.spiel_cli.specs.Legal.{legal_plan, offered};
+ghost use Rattle.spiel_cli.specs.Legal.{legal_plan, choices_of};
 ghost use Rattle.spiel_cli.specs.Named.{with_game};
 ghost use Rattle.spiel_cli.specs.Refusal.{kind_of};
 ghost use Rattle.spiel_string.specs.View.{view};
 
-use crate::done::Done;
 use crate::lists::read_list;
-use crate::named::{load_named, read_word};
-use crate::refusal::{BadInput, Refusal};
+use crate::named::{load_named, read_game_string};
+use crate::refusal::Refusal;
 use spiel_api::{Game, walk};
 use spiel_frac::Text;
 use spiel_play::legal_lines;
@@ -21,31 +21,31 @@ fn show_choices<G: Game>(
     game: G,
     text: &GameText,
     history: &[u32],
-) -> Result<Done, Refusal>
+) -> Result<Text, Refusal>
     requires { G.is_game game }
-    ensures { Agrees kind_of (offered history.now (record { text = view text.now; rules = G.rules game })) None result }
+    ensures { Agrees kind_of (choices_of history.now (record { text = view text.now; rules = G.rules game })) None result }
 {
-    let state = walk(alloc, &game, history)?;
+    let state = walk(alloc, &game, history).map_err(Refusal::Walk)?;
     let mut out = Text::new(alloc);
     legal_lines(alloc, &game, &state, &mut out)?;
-    Ok(Done { out, same: true })
+    Ok(out)
 }
 
 /// What may be chosen after a history of the game that a word names.
-fn show_choices_named(alloc: Global, game: &[u8], history: &[u32]) -> Result<Done, Refusal>
-    ensures { Agrees kind_of (with_game game.now (offered history.now)) None result }
+fn show_choices_named(alloc: Global, game: &[u8], history: &[u32]) -> Result<Text, Refusal>
+    ensures { Agrees kind_of (with_game game.now (choices_of history.now)) None result }
 {
-    let text = read_word(alloc, game)?;
+    let text = read_game_string(alloc, game)?;
     let game = load_named(alloc, &text)?;
     show_choices(alloc, game, &text, history)
 }
 
 /// `legal GAME LIST`: the chance outcomes after a play, or the legal actions of whoever chooses next.
-pub fn legal(alloc: Global, game: &[u8], list: &[u8]) -> Result<Done, Refusal>
+pub fn legal(alloc: Global, game: &[u8], list: &[u8]) -> Result<Text, Refusal>
     ensures { Agrees kind_of (legal_plan game.now list.now) None result }
 {
     let Some(history) = read_list(alloc, list)? else {
-        return Err(Refusal::Bad(BadInput::BadList));
+        return Err(Refusal::BadList);
     };
     show_choices_named(alloc, game, history.items())
 }

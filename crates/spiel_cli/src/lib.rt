@@ -3,7 +3,6 @@
 
 mod answer;
 mod case;
-mod done;
 mod files;
 mod judge;
 mod legal;
@@ -12,11 +11,13 @@ mod named;
 mod policies;
 mod policy;
 mod refusal;
-mod report;
+mod reports;
 mod restore;
 mod save;
 mod show;
 mod top;
 mod value;
+mod writing;
 
+pub use reports::report;
 pub use top::run;

@@ -6,7 +6,8 @@ ghost use Rattle.spiel_string.specs.View.{view};
 ghost use Rattle.spiel_string.specs.WellFormed.{IsWellFormed};
 ghost use Rattle.spiel_load.specs.Named.{named_game};
 ghost use Rattle.spiel_cli.specs.Deciding.{decide, seeing};
-ghost use Rattle.spiel_cli.specs.Refusal.{kind_of, of_load, of_string};
+ghost use Rattle.spiel_cli.specs.Refusal.{kind_of};
+ghost use Rattle.spiel_cli.specs.declared.refusal.Refusal.TheVariants.{GameString, Loading};
 
 use crate::refusal::Refusal;
 use spiel_api::Game;
@@ -15,18 +16,18 @@ use spiel_string::{GameText, read_game};
 use std::alloc::Global;
 
 /// The game string that a word is.
-pub fn read_word(alloc: Global, word: &[u8]) -> Result<GameText, Refusal>
-    ensures agrees { Agrees kind_of (decide of_string (reading word.now)) None (seeing view result) }
+pub fn read_game_string(alloc: Global, word: &[u8]) -> Result<GameText, Refusal>
+    ensures agrees { Agrees kind_of (decide GameString (reading word.now)) None (seeing view result) }
     ensures well_formed { IfOk result (λ text. IsWellFormed (view text)) }
 {
-    Ok(read_game(alloc, word)?)
+    read_game(alloc, word).map_err(Refusal::GameString)
 }
 
 /// The game that a game string names.
 pub fn load_named(alloc: Global, text: &GameText) -> Result<Any, Refusal>
     requires { IsWellFormed (view text.now) }
-    ensures agrees { Agrees kind_of (decide of_load (named_game (view text.now))) None (seeing ⟦<Any as Game>⟧.rules result) }
+    ensures agrees { Agrees kind_of (decide Loading (named_game (view text.now))) None (seeing ⟦<Any as Game>⟧.rules result) }
     ensures playable { IfOk result ⟦<Any as Game>⟧.is_game }
 {
-    Ok(load(alloc, text)?)
+    load(alloc, text).map_err(Refusal::Loading)
 }

@@ -1,18 +1,15 @@
 //! Policies that words say.
-ghost use Rattle.std.specs.Prelude.{◌≡◌, ◌<◌, ◌⊎◌, ℕ, length, IfOk, None};
+ghost use Rattle.std.specs.Prelude.{◌≡◌, IfOk, None};
 ghost use Rattle.spiel_io.specs.Plan.{Agrees, BeginsAtMost, Follows};
 ghost use Rattle.spiel_policy.specs.Profiles.{Fits};
-ghost use Rattle.spiel_policy.specs.declared.fault.PolicyFault.TheVariants.{Missing as MissingState};
-ghost use Rattle.spiel_tree.specs.States.{states_below};
 ghost use Rattle.spiel_cli.specs.Policies.{chosen, file_profile, files_in, from_file, name_of, profile_of};
-ghost use Rattle.spiel_cli.specs.Refusal.{kind_of, of_policy};
-ghost use Rattle.spiel_cli.specs.declared.refusal.Refusal.TheVariants.{NoMemory as OutOfMemory};
+ghost use Rattle.spiel_cli.specs.Refusal.{kind_of};
 
-use crate::files::read_named;
-use crate::refusal::{BadInput, Refusal, Unfit};
-use spiel_frac::{NoMemory, Text};
+use crate::files::read_file;
+use crate::refusal::Refusal;
+use spiel_frac::NoMemory;
 use spiel_io::Shelf;
-use spiel_policy::{Policy, PolicyFault, first_action, read_policy, uniform};
+use spiel_policy::{Policy, first_action, read_policy, uniform};
 use spiel_tree::Tree;
 use std::alloc::Global;
 
@@ -50,48 +47,12 @@ fn named_policy(alloc: Global, tree: &Tree, name: NamedPolicy) -> Result<Policy,
     }
 }
 
-/// The refusal of a tree's information state that has no entry.
-fn no_entry(alloc: Global, tree: &Tree, state: u32) -> Result<Refusal, NoMemory>
-    requires { state < length (states_below tree.now.players tree.now.rows) }
-    ensures { IfOk result (λ refusal. refusal ≡ of_policy tree.now (MissingState state)) }
-{
-    let mut text = Text::new(alloc);
-    text.push(tree.state_text(state))?;
-    let player = tree.state_player(state);
-    Ok(Refusal::Unfit(Unfit::Missing { player, text }))
-}
-
-/// What a fault of a policy file is to a command.
-fn policy_refusal(alloc: Global, tree: &Tree, fault: PolicyFault) -> Refusal
-    requires { (state : ℕ) → fault ≡ MissingState state → state < length (states_below tree.now.players tree.now.rows) }
-    ensures { (result ≡ of_policy tree.now fault) ⊎ (result ≡ OutOfMemory) }
-{
-    match fault {
-        PolicyFault::Json => Refusal::Bad(BadInput::PolicyJson),
-        PolicyFault::Head => Refusal::Bad(BadInput::PolicyHead),
-        PolicyFault::Shape { entry } => Refusal::Bad(BadInput::PolicyShape { entry }),
-        PolicyFault::UnknownState { entry } => Refusal::Unfit(Unfit::UnknownState { entry }),
-        PolicyFault::Repeated { entry } => Refusal::Unfit(Unfit::Repeated { entry }),
-        PolicyFault::Action { entry } => Refusal::Unfit(Unfit::Action { entry }),
-        PolicyFault::Overflow { .. } => Refusal::Overflow,
-        PolicyFault::Sum { entry } => Refusal::Unfit(Unfit::Sum { entry }),
-        PolicyFault::Missing { state } => match no_entry(alloc, tree, state) {
-            Ok(refusal) => refusal,
-            Err(NoMemory) => Refusal::NoMemory,
-        },
-        PolicyFault::NoMemory => Refusal::NoMemory,
-    }
-}
-
 /// The policy that the bytes of a file give for a tree.
 fn policy_in(alloc: Global, tree: &Tree, bytes: &[u8]) -> Result<Policy, Refusal>
     ensures agrees { Agrees kind_of (file_profile tree.now bytes.now) None result }
     ensures fits { IfOk result (λ policy. Fits tree.now policy) }
 {
-    match read_policy(alloc, tree, bytes) {
-        Ok(policy) => Ok(policy),
-        Err(fault) => Err(policy_refusal(alloc, tree, fault)),
-    }
+    read_policy(alloc, tree, bytes).map_err(Refusal::PolicyFile)
 }
 
 /// The policy that a file gives for a tree.
@@ -105,7 +66,7 @@ fn policy_file<F: Shelf>(
     ensures fits { IfOk result (λ policy. Fits tree.now policy) }
     ensures begins { BeginsAtMost 1 0 (F.state shelf.old) (F.state shelf.new) }
 {
-    let text = read_named(alloc, shelf, name)?;
+    let text = read_file(alloc, shelf, name)?;
     policy_in(alloc, tree, text.bytes())
 }
 

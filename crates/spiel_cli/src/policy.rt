@@ -1,13 +1,13 @@
+//! The verb `policy`: a policy as a file.
 ghost use Rattle.std.specs.Prelude.{None};
 ghost use Rattle.spiel_io.specs.Plan.{Agrees, BeginsAtMost, Follows};
 ghost use Rattle.spiel_policy.specs.Profiles.{Fits};
 ghost use Rattle.spiel_cli.specs.Case.{case_of};
 ghost use Rattle.spiel_cli.specs.Policies.{files_in};
-ghost use Rattle.spiel_cli.specs.Policy.{filed, policy_plan};
+ghost use Rattle.spiel_cli.specs.Policy.{case_file, policy_plan};
 ghost use Rattle.spiel_cli.specs.Refusal.{kind_of};
 
 use crate::case::{Case, read_case};
-use crate::done::Done;
 use crate::refusal::Refusal;
 use spiel_frac::Text;
 use spiel_io::Shelf;
@@ -15,13 +15,13 @@ use spiel_policy::write_policy;
 use std::alloc::Global;
 
 /// The file of a case's policy.
-fn file_of(alloc: Global, case: &Case) -> Result<Done, Refusal>
+fn file_of(alloc: Global, case: &Case) -> Result<Text, Refusal>
     requires { Fits case.now.tree case.now.policy }
-    ensures { Agrees kind_of (filed (case_of case.now)) None result }
+    ensures { Agrees kind_of (case_file (case_of case.now)) None result }
 {
     let mut out = Text::new(alloc);
     write_policy(alloc, &case.tree, &case.policy, &mut out)?;
-    Ok(Done { out, same: true })
+    Ok(out)
 }
 
 /// `policy GAME POLICY`: the policy as a file.
@@ -30,7 +30,7 @@ pub fn policy<F: Shelf>(
     shelf: &mut F,
     game: &[u8],
     policy: &[u8],
-) -> Result<Done, Refusal>
+) -> Result<Text, Refusal>
     ensures follows { Follows kind_of (policy_plan game.now policy.now) (F.state shelf.old) (F.state shelf.new) result }
     ensures begins { BeginsAtMost (files_in policy.now) 0 (F.state shelf.old) (F.state shelf.new) }
 {

@@ -1,14 +1,15 @@
+//! The verb `restore`: the state of a saved play.
 ghost use Rattle.std.specs.Prelude.{◌≤◌, length, IfOk, None};
 ghost use Rattle.spiel_io.specs.Plan.{Agrees, BeginsAtMost, Follows};
 ghost use Rattle.spiel_save.specs.Answer.{reading_saved};
 ghost use Rattle.spiel_string.specs.View.{view};
 ghost use Rattle.spiel_string.specs.WellFormed.{IsWellFormed};
 ghost use Rattle.spiel_cli.specs.Deciding.{decide, file_limit, seeing};
-ghost use Rattle.spiel_cli.specs.Refusal.{kind_of, of_saved};
-ghost use Rattle.spiel_cli.specs.Restore.{played_of, restore_plan, restored, shown, shown_play};
+ghost use Rattle.spiel_cli.specs.Refusal.{kind_of};
+ghost use Rattle.spiel_cli.specs.declared.refusal.Refusal.TheVariants.{SavedFile};
+ghost use Rattle.spiel_cli.specs.Restore.{played_of, restore_plan, play_in_file, state_of, state_of_play};
 
-use crate::done::Done;
-use crate::files::read_named;
+use crate::files::read_file;
 use crate::named::load_named;
 use crate::refusal::Refusal;
 use spiel_api::{Game, walk};
@@ -22,10 +23,10 @@ use std::alloc::Global;
 /// The game and the history of a saved file.
 fn read_play(alloc: Global, bytes: &[u8]) -> Result<Saved, Refusal>
     requires { length bytes.now ≤ file_limit }
-    ensures agrees { Agrees kind_of (decide of_saved (reading_saved bytes.now)) None (seeing played_of result) }
+    ensures agrees { Agrees kind_of (decide SavedFile (reading_saved bytes.now)) None (seeing played_of result) }
     ensures well_formed { IfOk result (λ saved. IsWellFormed (view saved.game)) }
 {
-    Ok(read_saved(alloc, bytes)?)
+    read_saved(alloc, bytes).map_err(Refusal::SavedFile)
 }
 
 /// The name of a game, and the lines of its state for a history.
@@ -34,40 +35,40 @@ fn show_state<G: Game>(
     game: G,
     text: &GameText,
     history: &[u32],
-) -> Result<Done, Refusal>
+) -> Result<Text, Refusal>
     requires { G.is_game game }
-    ensures { Agrees kind_of (shown history.now (record { text = view text.now; rules = G.rules game })) None result }
+    ensures { Agrees kind_of (state_of history.now (record { text = view text.now; rules = G.rules game })) None result }
 {
-    let state = walk(alloc, &game, history)?;
+    let state = walk(alloc, &game, history).map_err(Refusal::Walk)?;
     let mut out = Text::new(alloc);
     title(alloc, text, &mut out)?;
     block(alloc, &game, &state, &mut out)?;
-    Ok(Done { out, same: true })
+    Ok(out)
 }
 
 /// The game of a saved play, and the lines of its state.
-fn show_saved(alloc: Global, saved: &Saved) -> Result<Done, Refusal>
+fn show_saved(alloc: Global, saved: &Saved) -> Result<Text, Refusal>
     requires { IsWellFormed (view saved.now.game) }
-    ensures { Agrees kind_of (shown_play (played_of saved.now)) None result }
+    ensures { Agrees kind_of (state_of_play (played_of saved.now)) None result }
 {
     let game = load_named(alloc, &saved.game)?;
     show_state(alloc, game, &saved.game, saved.history.items())
 }
 
 /// What the bytes of a saved file show.
-fn restore_bytes(alloc: Global, bytes: &[u8]) -> Result<Done, Refusal>
+fn restore_bytes(alloc: Global, bytes: &[u8]) -> Result<Text, Refusal>
     requires { length bytes.now ≤ file_limit }
-    ensures { Agrees kind_of (restored bytes.now) None result }
+    ensures { Agrees kind_of (play_in_file bytes.now) None result }
 {
     let saved = read_play(alloc, bytes)?;
     show_saved(alloc, &saved)
 }
 
 /// `restore FILE`: the state of a saved play.
-pub fn restore<F: Shelf>(alloc: Global, shelf: &mut F, name: &[u8]) -> Result<Done, Refusal>
+pub fn restore<F: Shelf>(alloc: Global, shelf: &mut F, name: &[u8]) -> Result<Text, Refusal>
     ensures follows { Follows kind_of (restore_plan name.now) (F.state shelf.old) (F.state shelf.new) result }
     ensures begins { BeginsAtMost 1 0 (F.state shelf.old) (F.state shelf.new) }
 {
-    let text = read_named(alloc, shelf, name)?;
+    let text = read_file(alloc, shelf, name)?;
     restore_bytes(alloc, text.bytes())
 }

@@ -1,14 +1,14 @@
+//! The verb `save`: the saved file of a play.
 ghost use Rattle.std.specs.Prelude.{None};
 ghost use Rattle.spiel_io.specs.Plan.{Agrees};
 ghost use Rattle.spiel_string.specs.View.{view};
 ghost use Rattle.spiel_cli.specs.Named.{with_game};
 ghost use Rattle.spiel_cli.specs.Refusal.{kind_of};
-ghost use Rattle.spiel_cli.specs.Save.{save_plan, saved};
+ghost use Rattle.spiel_cli.specs.Save.{file_of_play, save_plan};
 
-use crate::done::Done;
 use crate::lists::read_list;
-use crate::named::{load_named, read_word};
-use crate::refusal::{BadInput, Refusal};
+use crate::named::{load_named, read_game_string};
+use crate::refusal::Refusal;
 use spiel_api::{Game, walk};
 use spiel_frac::Text;
 use spiel_save::write_saved;
@@ -21,31 +21,31 @@ fn save_play<G: Game>(
     game: G,
     text: &GameText,
     history: &[u32],
-) -> Result<Done, Refusal>
+) -> Result<Text, Refusal>
     requires { G.is_game game }
-    ensures { Agrees kind_of (saved history.now (record { text = view text.now; rules = G.rules game })) None result }
+    ensures { Agrees kind_of (file_of_play history.now (record { text = view text.now; rules = G.rules game })) None result }
 {
-    let _ = walk(alloc, &game, history)?;
+    let _ = walk(alloc, &game, history).map_err(Refusal::Walk)?;
     let mut out = Text::new(alloc);
     write_saved(alloc, text, history, &mut out)?;
-    Ok(Done { out, same: true })
+    Ok(out)
 }
 
 /// The saved file of a history of the game that a word names.
-fn save_history(alloc: Global, game: &[u8], history: &[u32]) -> Result<Done, Refusal>
-    ensures { Agrees kind_of (with_game game.now (saved history.now)) None result }
+fn save_history(alloc: Global, game: &[u8], history: &[u32]) -> Result<Text, Refusal>
+    ensures { Agrees kind_of (with_game game.now (file_of_play history.now)) None result }
 {
-    let text = read_word(alloc, game)?;
+    let text = read_game_string(alloc, game)?;
     let game = load_named(alloc, &text)?;
     save_play(alloc, game, &text, history)
 }
 
 /// `save GAME LIST`: the saved file of a play, which `restore` reads.
-pub fn save(alloc: Global, game: &[u8], list: &[u8]) -> Result<Done, Refusal>
+pub fn save(alloc: Global, game: &[u8], list: &[u8]) -> Result<Text, Refusal>
     ensures { Agrees kind_of (save_plan game.now list.now) None result }
 {
     let Some(history) = read_list(alloc, list)? else {
-        return Err(Refusal::Bad(BadInput::BadList));
+        return Err(Refusal::BadList);
     };
     save_history(alloc, game, history.items())
 }

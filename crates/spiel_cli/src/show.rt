@@ -1,11 +1,11 @@
+//! The verb `show`: what holds of a whole game.
 ghost use Rattle.std.specs.Prelude.{None};
 ghost use Rattle.spiel_io.specs.Plan.{Agrees};
 ghost use Rattle.spiel_string.specs.View.{view};
 ghost use Rattle.spiel_cli.specs.Refusal.{kind_of};
-ghost use Rattle.spiel_cli.specs.Show.{show_plan, told};
+ghost use Rattle.spiel_cli.specs.Show.{facts_of, show_plan};
 
-use crate::done::Done;
-use crate::named::{load_named, read_word};
+use crate::named::{load_named, read_game_string};
 use crate::refusal::Refusal;
 use spiel_api::Game;
 use spiel_frac::Text;
@@ -14,20 +14,20 @@ use spiel_string::GameText;
 use std::alloc::Global;
 
 /// The fact lines of a game.
-fn tell<G: Game>(alloc: Global, game: G, text: &GameText) -> Result<Done, Refusal>
+fn show_facts<G: Game>(alloc: Global, game: G, text: &GameText) -> Result<Text, Refusal>
     requires { G.is_game game }
-    ensures { Agrees kind_of (told (record { text = view text.now; rules = G.rules game })) None result }
+    ensures { Agrees kind_of (facts_of (record { text = view text.now; rules = G.rules game })) None result }
 {
     let mut out = Text::new(alloc);
     facts(alloc, &game, text, &mut out)?;
-    Ok(Done { out, same: true })
+    Ok(out)
 }
 
 /// `show GAME`: what holds of a whole game.
-pub fn show(alloc: Global, game: &[u8]) -> Result<Done, Refusal>
+pub fn show(alloc: Global, game: &[u8]) -> Result<Text, Refusal>
     ensures { Agrees kind_of (show_plan game.now) None result }
 {
-    let text = read_word(alloc, game)?;
+    let text = read_game_string(alloc, game)?;
     let game = load_named(alloc, &text)?;
-    tell(alloc, game, &text)
+    show_facts(alloc, game, &text)
 }

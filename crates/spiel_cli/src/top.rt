@@ -1,3 +1,4 @@
+//! A whole run: words in, bytes and a status out.
 ghost use Rattle.std.specs.Prelude.{◌≡◌, ℕ, ◌+◌, ◌<◌, ◌≤◌, ◌⊎◌, Bool, true, List, Some, IsTrue, IfSome, map, string_bytes};
 ghost use Rattle.spiel_io.specs.Causes.{Rose};
 ghost use Rattle.spiel_io.specs.Outside.{Files};
@@ -12,15 +13,16 @@ ghost use Rattle.spiel_cli.specs.Outcome.{names_in, outcome, plan_of};
 ghost use Rattle.spiel_cli.specs.Run.{Completes, Knows, SaysStatus, TakesFront};
 
 use crate::answer::answer;
-use crate::report::report;
+use crate::writing::write_answer;
 use spiel_io::{Shelf, Sink};
 use std::alloc::Global;
 
 /// Does what the words say: reads from the shelf, writes to `out`, and puts messages to `err`.
 ///
-/// The answer is the exit status: 0 for done, 1 for a difference that was found, 2 for words that
-/// are no command, 3 for a read fault, 4 for bad input, 7 for a write fault, and 8 for want of
-/// memory.
+/// The answer is the exit status: 0 for done, 2 for words that are no command, 3 for a read fault, 4
+/// for bad input, 5 for a game that can't be judged or a policy file that isn't one of the game, 6 for
+/// numbers that pass 127 bits, 7 for a write fault, and 8 for want of memory. 1 is kept for a
+/// difference that is found; no command finds one yet.
 pub fn run<F: Shelf, O: Sink, E: Sink>(
     alloc: Global,
     words: &[String],
@@ -82,5 +84,5 @@ pub fn run<F: Shelf, O: Sink, E: Sink>(
         ≤ ((F.state shelf.old).reading Side).begins + side_asks (plan_of (map string_bytes words.now)) files) }
 {
     let answer = answer(alloc, words, shelf);
-    report(alloc, answer, out, err)
+    write_answer(alloc, answer, out, err)
 }

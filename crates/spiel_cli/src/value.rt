@@ -1,3 +1,4 @@
+//! The verb `value`: what each player gets on average.
 ghost use Rattle.std.specs.Prelude.{◌≡◌, ◌++◌, ◌<◌, IfOk, OnOk, None};
 ghost use Rattle.spiel_frac.specs.Fraction.{lowest_terms};
 ghost use Rattle.spiel_io.specs.Plan.{Agrees, BeginsAtMost, Follows};
@@ -7,10 +8,9 @@ ghost use Rattle.spiel_response.specs.Values.{denominator_of, value_of};
 ghost use Rattle.spiel_string.specs.View.{view};
 ghost use Rattle.spiel_cli.specs.Refusal.{kind_of};
 ghost use Rattle.spiel_cli.specs.Policies.{files_in};
-ghost use Rattle.spiel_cli.specs.Value.{value_line, value_lines, value_plan, valued, values_text};
+ghost use Rattle.spiel_cli.specs.Value.{value_line, value_lines, case_values, value_plan, values_text};
 
 use crate::case::read_case;
-use crate::done::Done;
 use crate::refusal::Refusal;
 use spiel_frac::{Frac, NoMemory, Text, write_frac, write_number};
 use spiel_io::Shelf;
@@ -69,13 +69,13 @@ fn tree_values(
     text: &GameText,
     tree: &Tree,
     policy: &Policy,
-) -> Result<Done, Refusal>
+) -> Result<Text, Refusal>
     requires { Fits tree.now policy.now }
-    ensures { Agrees kind_of (valued (record { text = view text.now; judged = record { tree = tree.now; profile = policy.now } })) None result }
+    ensures { Agrees kind_of (case_values (record { text = view text.now; judged = record { tree = tree.now; profile = policy.now } })) None result }
 {
-    let work = prepare(alloc, tree, policy)?;
+    let work = prepare(alloc, tree, policy).map_err(Refusal::Judging)?;
     let out = values_text(alloc, text, &work, tree.players())?;
-    Ok(Done { out, same: true })
+    Ok(out)
 }
 
 /// `value GAME POLICY`: what each player gets on average if all play by the policy.
@@ -84,7 +84,7 @@ pub fn values<F: Shelf>(
     shelf: &mut F,
     game: &[u8],
     policy: &[u8],
-) -> Result<Done, Refusal>
+) -> Result<Text, Refusal>
     ensures follows { Follows kind_of (value_plan game.now policy.now) (F.state shelf.old) (F.state shelf.new) result }
     ensures begins { BeginsAtMost (files_in policy.now) 0 (F.state shelf.old) (F.state shelf.new) }
 {

@@ -1,3 +1,4 @@
+pub mod FaultTexts
 pub mod Causes
 pub mod Outside
 pub mod Steps

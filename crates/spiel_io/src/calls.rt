@@ -1,28 +1,42 @@
-ghost use Rattle.std.specs.Prelude.{◌≡◌, ℕ, ◌≤◌, [], length, take, IsTrue, IsSome, IfOk, IfSome, OnOk, OnErr};
+//! Reading a whole file from any shelf, and sending all bytes to any sink.
+ghost use Rattle.std.specs.Prelude.{◌≡◌, ℕ, ◌≤◌, [], length, take, IsTrue, IsSome, IfOk, IfSome, OnOk, OnErr, Some};
 ghost use Rattle.std.specs.Io.KnownBytes.{append_known};
 ghost use Rattle.spiel_io.specs.Causes.{HasCause};
 ghost use Rattle.spiel_io.specs.Outside.{counted, held, other};
+ghost use Rattle.spiel_io.specs.FaultTexts.{fault_text};
 ghost use Rattle.spiel_io.specs.Fetch.{HasFetchCause, IsFetched};
 ghost use Rattle.spiel_io.specs.declared.calls.FetchFault.TheVariants.{NoMemory as OutOfMemory, Read};
 
 use crate::outside::{Failed, Shelf, Sink, Slot};
 use spiel_frac::{NoMemory, Text};
 use std::alloc::Global;
-use thiserror::Error;
+use std::error::Error;
+use std::fmt;
 
 /// Why a file was not fetched.
-#[derive(Clone, Copy, Debug, PartialEq, Eq, Error)]
+#[derive(Clone, Copy, Debug, PartialEq, Eq)]
 pub enum FetchFault {
     /// The file could not be begun, or a read failed.
-    #[error("read fault")]
     Read,
     /// The file has more bytes than the limit.
-    #[error("file too long")]
     TooLong,
     /// Memory ran out.
-    #[error("no memory")]
     NoMemory,
 }
+
+impl fmt::Display for FetchFault {
+    ghost output = { λ fault. Some (fault_text fault) };
+
+    fn fmt<W: fmt::Write>(&self, f: &mut fmt::Formatter<W>) -> fmt::Result {
+        match self {
+            FetchFault::Read => write!(f, "read fault"),
+            FetchFault::TooLong => write!(f, "file too long"),
+            FetchFault::NoMemory => write!(f, "no memory"),
+        }
+    }
+}
+
+impl Error for FetchFault {}
 
 impl From<Failed> for FetchFault {
     ghost from_gives = { λ _ e. e ≡ Read };

@@ -1,3 +1,4 @@
+//! Real files, standard input, standard output and standard error.
 ghost use Rattle.std.specs.Prelude.{◌≡◌, ◌≤◌, [], length, None, IfSome, is_some, false};
 ghost use Rattle.spiel_io.specs.Outside.{Reading};
 ghost use Rattle.spiel_io.specs.Host.{shelf_state, sink_state};

@@ -1,3 +1,4 @@
+//! Files in memory, of which chosen calls fail.
 ghost use Rattle.std.specs.Prelude.{◌≡◌, ◌+◌, ◌^◌, ◌<◌, ◌≤◌, ◌==◌, ◌++◌, [], length, take, drop, min, Some, None, Option, IsTrue, IfOk, IfSome, MatchOption, MatchResult, is_err, is_none, false};
 ghost use Rattle.spiel_io.specs.Outside.{Reading, counted, held, other, pick};
 ghost use Rattle.spiel_io.specs.Steps.{Begins, Reads};

@@ -1,3 +1,4 @@
+//! A sink in memory, of which chosen calls fail.
 ghost use Rattle.std.specs.Prelude.{◌≡◌, ◌<◌, ◌≤◌, [], Some, IfOk, is_err, vec_len, vec_capacity};
 ghost use Rattle.spiel_io.specs.Steps.{Takes};
 

@@ -1,3 +1,4 @@
+//! What files are read from and bytes are written to: the traits of shelves and sinks.
 ghost use Rattle.std.specs.Prelude.{IsTrue, Some, codes};
 ghost use Rattle.spiel_io.specs.Outside.{ShelfState, SinkState};
 ghost use Rattle.spiel_io.specs.Steps.{Begins, Reads, Takes};

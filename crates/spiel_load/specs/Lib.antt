@@ -1,4 +1,5 @@
 pub mod Base
+pub mod Faults
 pub mod Given
 pub mod Histories
 pub mod Making

@@ -1,4 +1,4 @@
-//! The lines that show a state of a game.
+//! The lines that show a state of a game, and those of what there is to choose from.
 ghost use Rattle.std.specs.Prelude.{◌≡◌, ◌<◌, ◌≤◌, ◌++◌, ◌^◌, length, flat_map, sum, map, pos, OnOk, OnErr, slice_index};
 ghost use Rattle.spiel_frac.specs.Fraction.{ratio_text};
 ghost use Rattle.spiel_api.specs.declared.place.Place.TheVariants.{Chance, End, Joint};

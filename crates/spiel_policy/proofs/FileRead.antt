@@ -14,7 +14,7 @@ use Rattle.spiel_tree.specs.States.{InfoState, numbers_of, state_at, states_belo
 use Rattle.spiel_tree.specs.Trees.{IsGameTree, Whole}
 use Rattle.spiel_policy.specs.Entries.{entry_of, entry_with}
 use Rattle.spiel_policy.specs.Profiles.{AreReduced, Fits, Profile, weights_of}
-use Rattle.spiel_policy.specs.Reading.{Given, go_on, none_given, profile_from, profile_of_data, state_named, weights_at, weights_given, with_data, with_entries, with_entry, with_state}
+use Rattle.spiel_policy.specs.Reading.{Partial, go_on, none_given, profile_from, profile_of_data, state_named, weights_at, weights_given, with_data, with_entries, with_entry, with_state}
 use Rattle.spiel_policy.specs.Writing.{HasShortWeights, entries_data, entry_data, entry_data_at, file_data, pair_data, pairs_data}
 use Rattle.spiel_policy.specs.declared.entries.Entry.{Entry}
 use Rattle.spiel_policy.specs.declared.entries.Pair.{Pair}
@@ -41,7 +41,7 @@ entry_read state numbers weights low small short positive =
 
 -- ---- one information state after the other
 -- those below s have their weights, and no others
-record IsFilled (tree : Whole) (profile : Profile) (given : Given) (s : ℕ) : Type 0 where
+record IsFilled (tree : Whole) (profile : Profile) (given : Partial) (s : ℕ) : Type 0 where
   pub long : length given ≡ length (states_below tree.players tree.rows)
   pub done : (t : ℕ) → t < s → weights_given given t ≡ Some (weights_of profile t)
   pub free : (t : ℕ) → s ≤ t → weights_given given t ≡ None
@@ -58,7 +58,7 @@ none_filled tree profile = record {
   free = λ t l. nothing_there (length (states_below tree.players tree.rows)) t;
 }
 
-filled_more : (tree : Whole) (profile : Profile) (given : Given) (s : ℕ) → IsFilled tree profile given s → s < length given → IsFilled tree profile (slice_set given s (Some (weights_of profile s))) (suc s)
+filled_more : (tree : Whole) (profile : Profile) (given : Partial) (s : ℕ) → IsFilled tree profile given s → s < length given → IsFilled tree profile (slice_set given s (Some (weights_of profile s))) (suc s)
 filled_more tree profile given s is l = record {
   long = length-set given s (Some (weights_of profile s)) ∙ is.long;
   done = λ t m. by t m (t == s) refl;
@@ -77,7 +77,7 @@ filled_more tree profile given s is l = record {
         below t m other = omega (arith, m, other)
 
 -- what an entry that was written gives
-data_read : (tree : Whole) (profile : Profile) (given : Given) (s : ℕ) → IsGameTree tree → Fits tree profile → HasShortWeights profile → IsFilled tree profile given s → s < length (states_below tree.players tree.rows)
+data_read : (tree : Whole) (profile : Profile) (given : Partial) (s : ℕ) → IsGameTree tree → Fits tree profile → HasShortWeights profile → IsFilled tree profile given s → s < length (states_below tree.players tree.rows)
     → with_data tree given s (entry_data_at tree profile s) ≡ Ok (slice_set given s (Some (weights_of profile s)))
 data_read tree profile given s game fits short is l =
     let state = state_at tree.players tree.rows s in
@@ -97,12 +97,12 @@ data_read tree profile given s game fits short is l =
     ∙ ap (λ (r : Result (List ℕ) PolicyFault). go_on (λ ws. Ok (slice_set given s (Some ws))) r) weighed
 
 -- what all entries give
-record IsRead (tree : Whole) (profile : Profile) (answer : Result Given PolicyFault) : Type 0 where
-  pub given : Given
+record IsRead (tree : Whole) (profile : Profile) (answer : Result Partial PolicyFault) : Type 0 where
+  pub given : Partial
   pub is : answer ≡ Ok given
   pub filled : IsFilled tree profile given (length (states_below tree.players tree.rows))
 
-entries_read : (tree : Whole) (profile : Profile) (given : Given) (s left : ℕ) → IsGameTree tree → Fits tree profile → HasShortWeights profile → IsFilled tree profile given s
+entries_read : (tree : Whole) (profile : Profile) (given : Partial) (s left : ℕ) → IsGameTree tree → Fits tree profile → HasShortWeights profile → IsFilled tree profile given s
     → s + left ≡ length (states_below tree.players tree.rows) → IsRead tree profile (with_entries tree given s (items_of (map (entry_data_at tree profile) (range_with_len s left))))
 entries_read tree profile given s zero game fits short is e =
     let all : s ≡ length (states_below tree.players tree.rows) = omega (arith, e) in
@@ -114,17 +114,17 @@ entries_read tree profile given s (suc left) game fits short is e =
     let items : ℕ → Items = λ n. items_of (map (entry_data_at tree profile) (range_with_len n left)) in
     record {
       given = rest.given;
-      is = ap (go_on (λ (g : Given). with_entries tree g (suc s) (items (s + 1)))) (data_read tree profile given s game fits short is l)
+      is = ap (go_on (λ (g : Partial). with_entries tree g (suc s) (items (s + 1)))) (data_read tree profile given s game fits short is l)
           ∙ ap (λ (n : ℕ). with_entries tree more (suc s) (items n)) (add-one s) ∙ rest.is;
       filled = rest.filled;
     }
 
 -- ---- the profile
-profile_all : (profile : Profile) (n : ℕ) → profile_from n (map Some profile) ≡ Ok profile
-profile_all [] n = refl
-profile_all (weights ∷ profile) n = ap (go_on (λ (rest : Profile). Ok (weights ∷ rest))) (profile_all profile (suc n))
+profile_all : (tree : Whole) (profile : Profile) (n : ℕ) → profile_from tree n (map Some profile) ≡ Ok profile
+profile_all tree [] n = refl
+profile_all tree (weights ∷ profile) n = ap (go_on (λ (rest : Profile). Ok (weights ∷ rest))) (profile_all tree profile (suc n))
 
-filled_is : (tree : Whole) (profile : Profile) (given : Given) → Fits tree profile → IsFilled tree profile given (length (states_below tree.players tree.rows)) → given ≡ map Some profile
+filled_is : (tree : Whole) (profile : Profile) (given : Partial) → Fits tree profile → IsFilled tree profile given (length (states_below tree.players tree.rows)) → given ≡ map Some profile
 filled_is tree profile given fits is =
     ext_get_or None given (map Some profile) (omega (arith, is.long, fits.states, length-map profile (λ (w : List ℕ). let o : Option (List ℕ) = Some w in o)))
     (λ k l. is.done k (omega (arith, l, is.long)) ∙ sym (get_or-map Some profile k [] None (omega (arith, l, is.long, fits.states))))
@@ -132,7 +132,7 @@ filled_is tree profile given fits is =
 pub file_read : (tree : Whole) (profile : Profile) → IsGameTree tree → Fits tree profile → HasShortWeights profile → profile_of_data tree (file_data tree profile) ≡ Ok profile
 file_read tree profile game fits short =
     let read = entries_read tree profile (none_given tree) 0 (length (states_below tree.players tree.rows)) game fits short (none_filled tree profile) (omega arith) in
-    ap (go_on (profile_from 0)) read.is ∙ ap (profile_from 0) (filled_is tree profile read.given fits read.filled) ∙ profile_all profile 0
+    ap (go_on (profile_from tree 0)) read.is ∙ ap (profile_from tree 0) (filled_is tree profile read.given fits read.filled) ∙ profile_all tree profile 0
 
 -- ---- its shape
 pairs_plain : (total : ℕ) (numbers weights : List ℕ) → All (λ n. n < 2 ^ 32) numbers → All IsPlain (pairs_data total numbers weights)

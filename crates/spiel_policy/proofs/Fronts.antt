@@ -16,7 +16,7 @@ use Rattle.spiel_tree.specs.Trees.{Whole}
 use Rattle.spiel_policy.specs.Entries.{entry_with, not_negative, pair_with, pairs_in}
 use Rattle.spiel_policy.specs.Heads.{entries_of, json_of}
 use Rattle.spiel_policy.specs.Profiles.{Profile}
-use Rattle.spiel_policy.specs.Reading.{Given, go_on, none_given, policy_of, profile_from, profile_of_data, profile_of_entries, with_entries, with_entry}
+use Rattle.spiel_policy.specs.Reading.{Partial, go_on, none_given, policy_of, profile_from, profile_of_data, profile_of_entries, with_entries, with_entry}
 use Rattle.spiel_policy.specs.Fronts.{AreEntriesNext, AreNext, ArePairsNext, IsEntryNext, IsFileNext, IsNext, IsPairNext, IsWeightNext}
 use Rattle.spiel_policy.specs.declared.entries.Entry.{Entry}
 use Rattle.spiel_policy.specs.declared.entries.Pair.{Pair}
@@ -173,21 +173,21 @@ seen_next player text pairs old opened more left low begun is rest =
 pub entry_shorter : (entry : Entry) (old left : List Token) → IsEntryNext entry old left → length left < length old
 entry_shorter entry old left is = shorter 3 is.datum old left is.next
 
-pub entries_none : (whole : Whole) (given : Given) (n : ℕ) (old left : List Token) → json.after_end_array old ≡ Some left → AreEntriesNext whole given n given old left
+pub entries_none : (whole : Whole) (given : Partial) (n : ℕ) (old left : List Token) → json.after_end_array old ≡ Some left → AreEntriesNext whole given n given old left
 entries_none whole given n old left close = record { items = no_items; next = items_none 3 old left close; given_is = refl }
 
-pub entries_more : (whole : Whole) (before given final : Given) (n : ℕ) (entry : Entry) (old more left : List Token) → IsEntryNext entry old more → with_entry whole before n entry ≡ Ok given
+pub entries_more : (whole : Whole) (before given final : Partial) (n : ℕ) (entry : Entry) (old more left : List Token) → IsEntryNext entry old more → with_entry whole before n entry ≡ Ok given
     → AreEntriesNext whole given (n + 1) final more left → AreEntriesNext whole before n final old left
 entries_more whole before given final n entry old more left first added rest = record {
   items = item first.datum rest.items;
   next = items_more 3 first.datum rest.items old more left first.next rest.next;
-  given_is = ap (λ (o : Option Entry). go_on (λ (g : Given). with_entries whole g (suc n) rest.items) (go_on (with_entry whole before n) (ok_or o (Shape n)))) first.entry_is
-      ∙ ap (go_on (λ (g : Given). with_entries whole g (suc n) rest.items)) added
+  given_is = ap (λ (o : Option Entry). go_on (λ (g : Partial). with_entries whole g (suc n) rest.items) (go_on (with_entry whole before n) (ok_or o (Shape n)))) first.entry_is
+      ∙ ap (go_on (λ (g : Partial). with_entries whole g (suc n) rest.items)) added
       ∙ ap (λ (k : ℕ). with_entries whole given k rest.items) (sym (add-one n)) ∙ rest.given_is;
 }
 
 -- ---- the file
-pub file_next : (whole : Whole) (given : Given) (old opened more : List Token)
+pub file_next : (whole : Whole) (given : Partial) (old opened more : List Token)
     → old ≡ Token.begin_object ∷ Token.key (codes "policy") ∷ Token.number (decimal 1) ∷ Token.key (codes "states") ∷ Token.begin_array ∷ opened
     → AreEntriesNext whole (none_given whole) 0 given opened more → more ≡ Token.end_object ∷ [] → IsFileNext whole given old []
 file_next whole given old opened more begun is rest =
@@ -221,12 +221,12 @@ next_read depth d text next low =
     let shallow = next.shallow in
     ap last_read (ap (json.value max_depth) next.tokens_are ∙ value-json_tokens next.value max_depth [] (omega (arith, shallow, low))) ∙ next.reads
 
-pub file_policy : (whole : Whole) (bytes : List ℕ) (d : Data) (items : Items) (given : Given) (profile : Profile) → json_of bytes ≡ Some d → entries_of d ≡ Some items
-    → with_entries whole (none_given whole) 0 items ≡ Ok given → profile_from 0 given ≡ Ok profile → policy_of whole bytes ≡ Ok profile
+pub file_policy : (whole : Whole) (bytes : List ℕ) (d : Data) (items : Items) (given : Partial) (profile : Profile) → json_of bytes ≡ Some d → entries_of d ≡ Some items
+    → with_entries whole (none_given whole) 0 items ≡ Ok given → profile_from whole 0 given ≡ Ok profile → policy_of whole bytes ≡ Ok profile
 unfolding policy_of
 file_policy whole bytes d items given profile is entries gives all =
     ap (λ (o : Option Data). go_on (profile_of_data whole) (ok_or o Json)) is ∙ ap (λ (o : Option Items). go_on (profile_of_entries whole) (ok_or o Head)) entries
-    ∙ ap (go_on (profile_from 0)) gives ∙ all
+    ∙ ap (go_on (profile_from whole 0)) gives ∙ all
 
 -- ---- where there may be none
 pub whole_if : (found : Option Fraction) (text : List ℕ) (old left : List Token) → old ≡ Token.number text ∷ left
@@ -261,8 +261,8 @@ entry_found_shorter (Err e) old left is = tt
 entry_found_shorter (Ok None) old left is = tt
 entry_found_shorter (Ok (Some entry)) old left is = entry_shorter entry old left is
 
-pub policy_if : {E : Type 0} (whole : Whole) (bytes : List ℕ) (given : Given) (found : Result (Option Profile) E) → IsUtf8 bytes → IsFileNext whole given (tokens bytes) []
-    → IfOk found (λ some. IfSome some (λ profile. profile_from 0 given ≡ Ok profile)) → IfOk found (λ some. IfSome some (λ profile. policy_of whole bytes ≡ Ok profile))
+pub policy_if : {E : Type 0} (whole : Whole) (bytes : List ℕ) (given : Partial) (found : Result (Option Profile) E) → IsUtf8 bytes → IsFileNext whole given (tokens bytes) []
+    → IfOk found (λ some. IfSome some (λ profile. profile_from whole 0 given ≡ Ok profile)) → IfOk found (λ some. IfSome some (λ profile. policy_of whole bytes ≡ Ok profile))
 policy_if whole bytes given (Err e) utf8 is all = tt
 policy_if whole bytes given (Ok None) utf8 is all = tt
 policy_if whole bytes given (Ok (Some profile)) utf8 is all =

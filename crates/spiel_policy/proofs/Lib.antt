@@ -5,7 +5,6 @@ pub mod Fronts
 pub mod GivenWeights
 pub mod InfoStates
 pub mod JsonBytes
-pub mod Missing
 pub mod PlainData
 pub mod Profiles
 pub mod ReadBack

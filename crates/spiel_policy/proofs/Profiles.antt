@@ -16,26 +16,26 @@ use Rattle.std.proofs.lemmas.List.Folds.{sum_by-replicate}
 use Rattle.spiel_tree.specs.States.{numbers_of, states_below}
 use Rattle.spiel_tree.specs.Trees.{Whole}
 use Rattle.spiel_policy.specs.Profiles.{AreReduced, Fits, Profile, by_counts, denominator, even_weights, first_profile, first_weights, uniform_profile, weights_of}
-use Rattle.spiel_policy.specs.Kept.{first_and, profile_with}
+use Rattle.spiel_policy.specs.Kept.{weights_with, profile_with}
 
 -- one weight more
-pub first_and_more : (n other : ℕ) → 1 ≤ n → first_and n other ++ other ∷ [] ≡ first_and (n + 1) other
-first_and_more zero other l = absurd (omega arith)
-first_and_more (suc n) other l = ap (λ (xs : List ℕ). 1 ∷ xs) (replicate_more n other) ∙ ap (λ (k : ℕ). first_and k other) (let e : suc (n + 1) ≡ suc n + 1 = omega arith in e)
+pub weights_with_more : (n other : ℕ) → 1 ≤ n → weights_with n other ++ other ∷ [] ≡ weights_with (n + 1) other
+weights_with_more zero other l = absurd (omega arith)
+weights_with_more (suc n) other l = ap (λ (xs : List ℕ). 1 ∷ xs) (replicate_more n other) ∙ ap (λ (k : ℕ). weights_with k other) (let e : suc (n + 1) ≡ suc n + 1 = omega arith in e)
 
-length-first_and : (n other : ℕ) → length (first_and n other) ≡ n
-length-first_and zero other = refl
-length-first_and (suc n) other = ap suc (length-replicate n other)
+length-weights_with : (n other : ℕ) → length (weights_with n other) ≡ n
+length-weights_with zero other = refl
+length-weights_with (suc n) other = ap suc (length-replicate n other)
 
-sum_of_more : (n other : ℕ) → sum (first_and (suc n) other) ≡ 1 + other * n
+sum_of_more : (n other : ℕ) → sum (weights_with (suc n) other) ≡ 1 + other * n
 sum_of_more n other =
-    let first : sum (first_and (suc n) other) ≡ 1 + sum (replicate n other) = sum_by-cons (λ (x : ℕ). x) 1 (replicate n other) in
+    let first : sum (weights_with (suc n) other) ≡ 1 + sum (replicate n other) = sum_by-cons (λ (x : ℕ). x) 1 (replicate n other) in
     let rest : sum (replicate n other) ≡ n * other = sum_by-replicate (λ (x : ℕ). x) n other in
     omega (arith, first, rest)
 
-pub sum-first_and : (n other : ℕ) → 1 ≤ n → sum (first_and n other) ≡ 1 + other * (n - 1)
-sum-first_and zero other l = absurd (omega arith)
-sum-first_and (suc n) other l =
+pub sum-weights_with : (n other : ℕ) → 1 ≤ n → sum (weights_with n other) ≡ 1 + other * (n - 1)
+sum-weights_with zero other l = absurd (omega arith)
+sum-weights_with (suc n) other l =
     let less : n ≡ suc n - 1 = omega arith in
     sum_of_more n other ∙ ap (λ (k : ℕ). 1 + other * k) less
 
@@ -48,11 +48,11 @@ same_by_counts : (f g : ℕ → List ℕ) (tree : Whole) (n : ℕ) → ((k : ℕ
 same_by_counts f g tree zero same = refl
 same_by_counts f g tree (suc n) same = ap₂ (λ (xs : Profile) (x : List ℕ). xs ++ x ∷ []) (same_by_counts f g tree n same) (same (length (numbers_of tree.players tree.rows n)))
 
-even_is : (n : ℕ) → first_and n 1 ≡ even_weights n
+even_is : (n : ℕ) → weights_with n 1 ≡ even_weights n
 even_is zero = refl
 even_is (suc n) = refl
 
-first_is : (n : ℕ) → first_and n 0 ≡ first_weights n
+first_is : (n : ℕ) → weights_with n 0 ≡ first_weights n
 first_is zero = refl
 first_is (suc n) = refl
 
@@ -77,31 +77,31 @@ denominators_of_one : (n : ℕ) → AllByRecursion (λ x. x ≡ 1) (map (denomin
 denominators_of_one zero = tt
 denominators_of_one (suc n) = (lowest_terms-den_of_whole 0, denominators_of_one n)
 
-reduced_by : (total other n : ℕ) → total ≡ 1 + other * n → other ≤ 1 → IsLeastMultiple (map (denominator total) (first_and (suc n) other)) total
+reduced_by : (total other n : ℕ) → total ≡ 1 + other * n → other ≤ 1 → IsLeastMultiple (map (denominator total) (weights_with (suc n) other)) total
 reduced_by total zero n e l =
-    subst (λ (t : ℕ). IsLeastMultiple (map (denominator t) (first_and (suc n) 0)) t) (let one : 1 ≡ total = omega arith in one)
+    subst (λ (t : ℕ). IsLeastMultiple (map (denominator t) (weights_with (suc n) 0)) t) (let one : 1 ≡ total = omega arith in one)
     (copies_least 1 (omega arith) (denominator 1 1) (map (denominator 1) (replicate n 0)) (lowest_terms-den_of_unit 1, denominators_of_one n))
 reduced_by total (suc zero) n e l =
     copies_least total (omega arith) (denominator total 1) (map (denominator total) (replicate n 1)) (lowest_terms-den_of_unit total, denominators_of_ones total n)
 reduced_by total (suc (suc other)) n e l = absurd (omega arith)
 
-pub reduced-first_and : (n other : ℕ) → 1 ≤ n → n ≤ most → other ≤ 1 → AreReduced (first_and n other)
-reduced-first_and zero other l m o = absurd (omega arith)
-reduced-first_and (suc n) other l m o =
+pub reduced-weights_with : (n other : ℕ) → 1 ≤ n → n ≤ most → other ≤ 1 → AreReduced (weights_with n other)
+reduced-weights_with zero other l m o = absurd (omega arith)
+reduced-weights_with (suc n) other l m o =
     let total = sum_of_more n other in
-    record { least = reduced_by (sum (first_and (suc n) other)) other n total o; small = small_by other o total }
+    record { least = reduced_by (sum (weights_with (suc n) other)) other n total o; small = small_by other o total }
   where
-    small_by : (other : ℕ) → other ≤ 1 → sum (first_and (suc n) other) ≡ 1 + other * n → sum (first_and (suc n) other) ≤ most
+    small_by : (other : ℕ) → other ≤ 1 → sum (weights_with (suc n) other) ≡ 1 + other * n → sum (weights_with (suc n) other) ≤ most
     small_by zero o total = omega (arith, total, m)
     small_by (suc zero) o total = omega (arith, total, m)
     small_by (suc (suc other)) o total = absurd (omega arith)
 
 -- ---- the two profiles
 pub uniform_is : (tree : Whole) → profile_with tree 1 ≡ uniform_profile tree
-uniform_is tree = same_by_counts (λ n. first_and n 1) even_weights tree (length (states_below tree.players tree.rows)) even_is
+uniform_is tree = same_by_counts (λ n. weights_with n 1) even_weights tree (length (states_below tree.players tree.rows)) even_is
 
 pub first_profile_is : (tree : Whole) → profile_with tree 0 ≡ first_profile tree
-first_profile_is tree = same_by_counts (λ n. first_and n 0) first_weights tree (length (states_below tree.players tree.rows)) first_is
+first_profile_is tree = same_by_counts (λ n. weights_with n 0) first_weights tree (length (states_below tree.players tree.rows)) first_is
 
 at_append : (xs : Profile) (x : List ℕ) (k : ℕ) → k < length xs → weights_of (xs ++ x ∷ []) k ≡ weights_of xs k
 at_append [] x k l = absurd (omega arith)
@@ -133,10 +133,10 @@ at_by_counts f tree (suc n) s l = by (at_by_counts f tree n s) (cases_lt s n)
 pub fits_with : (tree : Whole) (other : ℕ) → All AreReduced (profile_with tree other) → Fits tree (profile_with tree other)
 fits_with tree other reduced =
     let count = length (states_below tree.players tree.rows) in
-    let long = length-by_counts (λ n. first_and n other) tree count in
+    let long = length-by_counts (λ n. weights_with n other) tree count in
     record {
       states = long;
-      numbers = λ s l. ap length (at_by_counts (λ n. first_and n other) tree count s (omega (arith, l, long))) ∙ length-first_and (length (numbers_of tree.players tree.rows s)) other;
+      numbers = λ s l. ap length (at_by_counts (λ n. weights_with n other) tree count s (omega (arith, l, long))) ∙ length-weights_with (length (numbers_of tree.players tree.rows s)) other;
       reduced = reduced;
     }
 

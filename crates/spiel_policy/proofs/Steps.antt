@@ -1,13 +1,13 @@
 -- One entry after the other.
 use Rattle.std.proofs.Common.{◌≡◌, ℕ, zero, suc, ◌<◌, Bool, true, false, ◌==◌, List, [], ◌∷◌, length, map, eqb-true, refl, sym, ap, ◌∙◌, subst, Option, Some, None, Ok, Err, Result, arith}
-use Rattle.std.specs.Prelude.{All, IfOk, IfSome, sum, slice_set, replicate, if◌then◌else◌}
+use Rattle.std.specs.Prelude.{All, IfOk, IfSome, MatchResult, sum, slice_set, replicate, if◌then◌else◌}
 use Rattle.std.specs.Option.{ok_or}
 use Rattle.std.proofs.lemmas.Bool.{eqb-false}
 use Rattle.std.proofs.lemmas.List.{get_or-set_same, get_or-set_other, length-map, length-replicate, length-set}
 use Rattle.spiel_tree.specs.States.{numbers_of, states_below}
 use Rattle.spiel_tree.specs.Trees.{Whole}
-use Rattle.spiel_policy.specs.Given.{IsFor}
-use Rattle.spiel_policy.specs.Reading.{Given, go_on, profile_from, small_whole, weights_at, weights_given}
+use Rattle.spiel_policy.specs.Partial.{IsFor}
+use Rattle.spiel_policy.specs.Reading.{Partial, IsComputed, go_on, profile_from, small_whole, weights_at, weights_given}
 use Rattle.spiel_policy.specs.Profiles.{AreReduced, Fits, Profile, weights_of}
 use Rattle.spiel_policy.specs.Weighing.{choices_of, pair_for, parts_of, weights_of_whole}
 use Rattle.spiel_policy.specs.declared.entries.Pair.{Pair}
@@ -48,8 +48,8 @@ weights_long numbers n pairs weights e = by (choices_of numbers pairs) refl e
         next (Some whole) h = whole_long table whole n (length numbers) weights h (long table f)
 
 -- ---- the weights are for the tree
-pub for_none : (tree : Whole) (given : Given) (count : ℕ) → given ≡ replicate count None → count ≡ length (states_below tree.players tree.rows) → IsFor tree given
-for_none tree given count is n = subst (IsFor tree) (sym (is ∙ ap (λ (k : ℕ). let all : Given = replicate k None in all) n)) (record {
+pub for_none : (tree : Whole) (given : Partial) (count : ℕ) → given ≡ replicate count None → count ≡ length (states_below tree.players tree.rows) → IsFor tree given
+for_none tree given count is n = subst (IsFor tree) (sym (is ∙ ap (λ (k : ℕ). let all : Partial = replicate k None in all) n)) (record {
   states = length-replicate (length (states_below tree.players tree.rows)) None;
   numbers = λ s l. nothing (length (states_below tree.players tree.rows)) s;
 })
@@ -62,7 +62,7 @@ for_none tree given count is n = subst (IsFor tree) (sym (is ∙ ap (λ (k : ℕ
         none_there (suc n) zero = refl
         none_there (suc n) (suc s) = none_there n s
 
-pub for_more : (tree : Whole) (given new : Given) (s : ℕ) (w : List ℕ) → IsFor tree given → s < length given → length w ≡ length (numbers_of tree.players tree.rows s) → new ≡ slice_set given s (Some w) → IsFor tree new
+pub for_more : (tree : Whole) (given new : Partial) (s : ℕ) (w : List ℕ) → IsFor tree given → s < length given → length w ≡ length (numbers_of tree.players tree.rows s) → new ≡ slice_set given s (Some w) → IsFor tree new
 for_more tree given new s w is l long e = subst (IsFor tree) (sym e) (record {
   states = length-set given s (Some w) ∙ is.states;
   numbers = λ t m. by t (t == s) refl (omega (arith, m, length-set given s (Some w)));
@@ -85,41 +85,41 @@ went_on next (Ok a) b e = (a, refl, e)
 went_on next (Err fault) b e = cc
 
 -- ---- the profile
-pub profile_long : (given : Given) (n : ℕ) (profile : Profile) → profile_from n given ≡ Ok profile → length profile ≡ length given
-profile_long [] n profile e = let is : [] ≡ profile = cc in ap length (sym is)
-profile_long (None ∷ given) n profile e = cc
-profile_long (Some w ∷ given) n profile e =
+pub profile_long : (tree : Whole) (given : Partial) (n : ℕ) (profile : Profile) → profile_from tree n given ≡ Ok profile → length profile ≡ length given
+profile_long tree [] n profile e = let is : [] ≡ profile = cc in ap length (sym is)
+profile_long tree (None ∷ given) n profile e = cc
+profile_long tree (Some w ∷ given) n profile e =
     let next : Profile → Result Profile PolicyFault = λ (rest : Profile). Ok (w ∷ rest) in
-    let step = went_on next (profile_from (suc n) given) profile e in
+    let step = went_on next (profile_from tree (suc n) given) profile e in
     let is : w ∷ step.0 ≡ profile = cc (step.2) in
-    ap length (sym is) ∙ ap suc (profile_long given (suc n) step.0 step.1)
+    ap length (sym is) ∙ ap suc (profile_long tree given (suc n) step.0 step.1)
 
-pub profile_at : (given : Given) (n s : ℕ) (profile : Profile) → profile_from n given ≡ Ok profile → s < length given → weights_given given s ≡ Some (weights_of profile s)
-profile_at [] n s profile e l = absurd (omega arith)
-profile_at (None ∷ given) n s profile e l = cc
-profile_at (Some w ∷ given) n zero profile e l =
+pub profile_at : (tree : Whole) (given : Partial) (n s : ℕ) (profile : Profile) → profile_from tree n given ≡ Ok profile → s < length given → weights_given given s ≡ Some (weights_of profile s)
+profile_at tree [] n s profile e l = absurd (omega arith)
+profile_at tree (None ∷ given) n s profile e l = cc
+profile_at tree (Some w ∷ given) n zero profile e l =
     let next : Profile → Result Profile PolicyFault = λ (rest : Profile). Ok (w ∷ rest) in
-    let step = went_on next (profile_from (suc n) given) profile e in
+    let step = went_on next (profile_from tree (suc n) given) profile e in
     let is : w ∷ step.0 ≡ profile = cc (step.2) in
     ap (λ (ps : Profile). Some (weights_of ps 0)) is
-profile_at (Some w ∷ given) n (suc s) profile e l =
+profile_at tree (Some w ∷ given) n (suc s) profile e l =
     let next : Profile → Result Profile PolicyFault = λ (rest : Profile). Ok (w ∷ rest) in
-    let step = went_on next (profile_from (suc n) given) profile e in
+    let step = went_on next (profile_from tree (suc n) given) profile e in
     let is : w ∷ step.0 ≡ profile = cc (step.2) in
-    profile_at given (suc n) s step.0 step.1 (omega arith) ∙ ap (λ (ps : Profile). Some (weights_of ps (suc s))) is
+    profile_at tree given (suc n) s step.0 step.1 (omega arith) ∙ ap (λ (ps : Profile). Some (weights_of ps (suc s))) is
 
-pub fits_by : (tree : Whole) (given : Given) (profile : Profile) → IsFor tree given → profile_from 0 given ≡ Ok profile → All AreReduced profile → Fits tree profile
+pub fits_by : (tree : Whole) (given : Partial) (profile : Profile) → IsFor tree given → profile_from tree 0 given ≡ Ok profile → All AreReduced profile → Fits tree profile
 fits_by tree given profile is e reduced =
-    let long = profile_long given 0 profile e in
+    let long = profile_long tree given 0 profile e in
     record {
       states = long ∙ is.states;
       numbers = λ s l.
           let within : s < length given = omega (arith, l, long) in
-          subst (λ (o : Option (List ℕ)). IfSome o (λ (weights : List ℕ). length weights ≡ length (numbers_of tree.players tree.rows s))) (profile_at given 0 s profile e within) (is.numbers s within);
+          subst (λ (o : Option (List ℕ)). IfSome o (λ (weights : List ℕ). length weights ≡ length (numbers_of tree.players tree.rows s))) (profile_at tree given 0 s profile e within) (is.numbers s within);
       reduced = reduced;
     }
 
 -- what is answered for the tree fits it
-pub fits_if : (tree : Whole) (given : Given) (answer : Result Profile PolicyFault) → IsFor tree given → IfOk answer (λ (profile : Profile). profile_from 0 given ≡ Ok profile) → IfOk answer (All AreReduced) → IfOk answer (Fits tree)
+pub fits_if : (tree : Whole) (given : Partial) (answer : Result Profile PolicyFault) → IsFor tree given → MatchResult answer (λ (profile : Profile). profile_from tree 0 given ≡ Ok profile) (IsComputed (profile_from tree 0 given)) → IfOk answer (All AreReduced) → IfOk answer (Fits tree)
 fits_if tree given (Ok profile) is e reduced = fits_by tree given profile is e reduced
 fits_if tree given (Err fault) is e reduced = tt

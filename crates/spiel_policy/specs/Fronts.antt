@@ -9,7 +9,7 @@ use Rattle.spiel_frac.specs.Fraction.{Fraction}
 use Rattle.spiel_tree.specs.Trees.{Whole}
 use Rattle.spiel_policy.specs.Entries.{entry_of, pair_of, pairs_in, weight_of}
 use Rattle.spiel_policy.specs.Heads.{entries_of}
-use Rattle.spiel_policy.specs.Reading.{Given, none_given, with_entries}
+use Rattle.spiel_policy.specs.Reading.{Partial, none_given, with_entries}
 use Rattle.spiel_policy.specs.declared.entries.Entry.{Entry}
 use Rattle.spiel_policy.specs.declared.entries.Pair.{Pair}
 
@@ -48,12 +48,12 @@ pub record IsEntryNext (entry : Entry) (old left : List Token) : Type 0 where
   pub next : IsNext 3 datum old left
   pub entry_is : entry_of datum ≡ Some entry
 
-pub record AreEntriesNext (whole : Whole) (before : Given) (number : ℕ) (given : Given) (old left : List Token) : Type 0 where
+pub record AreEntriesNext (whole : Whole) (before : Partial) (number : ℕ) (given : Partial) (old left : List Token) : Type 0 where
   pub items : Items
   pub next : AreNext 3 items old left
   pub given_is : with_entries whole before number items ≡ Ok given
 
-pub record IsFileNext (whole : Whole) (given : Given) (old left : List Token) : Type 0 where
+pub record IsFileNext (whole : Whole) (given : Partial) (old left : List Token) : Type 0 where
   pub datum : Data
   pub next : IsNext 5 datum old left
   pub items : Items

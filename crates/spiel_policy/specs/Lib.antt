@@ -1,6 +1,6 @@
 pub mod Entries
 pub mod Fronts
-pub mod Given
+pub mod Partial
 pub mod Heads
 pub mod Kept
 pub mod Profiles

@@ -5,7 +5,7 @@ use Rattle.std.specs.List.{position}
 use Rattle.std.specs.Str.{bytes_eq}
 use Rattle.serde_json.specs.Data.{Data, Items, no_items, item}
 use Rattle.spiel_frac.specs.Fraction.{most}
-use Rattle.spiel_tree.specs.States.{InfoState, numbers_of, states_below}
+use Rattle.spiel_tree.specs.States.{InfoState, numbers_of, state_at, states_below}
 use Rattle.spiel_tree.specs.Trees.{Whole}
 use Rattle.spiel_policy.specs.Entries.{entry_of}
 use Rattle.spiel_policy.specs.Heads.{entries_of, json_of}
@@ -23,14 +23,14 @@ go_on next (Err fault) = Err fault
 
 -- ---- what the entries give
 -- for each information state of a tree its weights, if an entry gave some
-abbrev pub Given : Type 0
-Given = List (Option (List ℕ))
+abbrev pub Partial : Type 0
+Partial = List (Option (List ℕ))
 
 -- no information state has weights yet
-abbrev pub none_given : Whole → Given
+abbrev pub none_given : Whole → Partial
 none_given tree = replicate (length (states_below tree.players tree.rows)) None
 
-abbrev pub weights_given : Given → ℕ → Option (List ℕ)
+abbrev pub weights_given : Partial → ℕ → Option (List ℕ)
 weights_given given s = slice_index_or given s None
 
 abbrev pub is_state : ℕ → List ℕ → InfoState → Bool
@@ -51,34 +51,38 @@ weights_at numbers n pairs =
     (ok_or (choices_of numbers pairs) (Action n))
 
 -- what is given after an entry for this information state
-abbrev pub with_state : Whole → Given → ℕ → List Pair → ℕ → Result Given PolicyFault
+abbrev pub with_state : Whole → Partial → ℕ → List Pair → ℕ → Result Partial PolicyFault
 with_state tree given n pairs s =
     if is_some (weights_given given s)
     then Err (Repeated n)
     else go_on (λ weights. Ok (slice_set given s (Some weights))) (weights_at (numbers_of tree.players tree.rows s) n pairs)
 
-abbrev pub with_entry : Whole → Given → ℕ → Entry → Result Given PolicyFault
+abbrev pub with_entry : Whole → Partial → ℕ → Entry → Result Partial PolicyFault
 with_entry tree given n entry = go_on (with_state tree given n entry.pairs) (ok_or (state_named tree entry.player entry.text) (UnknownState n))
 
 -- what is given after the entry with the number n, if it has the shape of one
-abbrev pub with_data : Whole → Given → ℕ → Data → Result Given PolicyFault
+abbrev pub with_data : Whole → Partial → ℕ → Data → Result Partial PolicyFault
 with_data tree given n d = go_on (with_entry tree given n) (ok_or (entry_of d) (Shape n))
 
 -- what is given after these entries, the first of which has the number n: the first with a fault
 -- decides
-abbrev pub with_entries : Whole → Given → ℕ → Items → Result Given PolicyFault
+abbrev pub with_entries : Whole → Partial → ℕ → Items → Result Partial PolicyFault
 with_entries tree given n no_items = Ok given
 with_entries tree given n (item d ds) = go_on (λ more. with_entries tree more (suc n) ds) (with_data tree given n d)
 
 -- ---- the profile
+-- no entry is for an information state
+abbrev pub missing : Whole → ℕ → PolicyFault
+missing tree s = Missing (state_at tree.players tree.rows s).player (state_at tree.players tree.rows s).text
+
 -- the weights of all information states from the n-th on, or the first that has none
-abbrev pub profile_from : ℕ → Given → Result Profile PolicyFault
-profile_from n [] = Ok []
-profile_from n (None ∷ given) = Err (Missing n)
-profile_from n (Some weights ∷ given) = go_on (λ profile. Ok (weights ∷ profile)) (profile_from (suc n) given)
+abbrev pub profile_from : Whole → ℕ → Partial → Result Profile PolicyFault
+profile_from tree n [] = Ok []
+profile_from tree n (None ∷ given) = Err (missing tree n)
+profile_from tree n (Some weights ∷ given) = go_on (λ profile. Ok (weights ∷ profile)) (profile_from tree (suc n) given)
 
 abbrev pub profile_of_entries : Whole → Items → Result Profile PolicyFault
-profile_of_entries tree entries = go_on (profile_from 0) (with_entries tree (none_given tree) 0 entries)
+profile_of_entries tree entries = go_on (profile_from tree 0) (with_entries tree (none_given tree) 0 entries)
 
 abbrev pub profile_of_data : Whole → Data → Result Profile PolicyFault
 profile_of_data tree d = go_on (profile_of_entries tree) (ok_or (entries_of d) Head)

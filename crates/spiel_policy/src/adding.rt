@@ -1,14 +1,15 @@
+//! What one entry of a policy file gives its information state.
 ghost use Rattle.std.specs.Prelude.{◌≡◌, ◌<◌, ◌+◌, length, count_by, is_some, Ok, IfSome, IfOk, OnOk, MatchResult, All};
 ghost use Rattle.spiel_tree.specs.States.{numbers_of, states_below};
 ghost use Rattle.spiel_tree.specs.Trees.{IsGameTree};
 ghost use Rattle.spiel_policy.specs.Entries.{IsFair};
-ghost use Rattle.spiel_policy.specs.Given.{IsFor};
+ghost use Rattle.spiel_policy.specs.Partial.{IsFor};
 ghost use Rattle.spiel_policy.specs.Reading.{IsComputed, state_named, weights_at, with_entry};
 ghost use Rattle.spiel_policy.specs.Profiles.{AreReduced};
 
 use crate::entries::{Entry, Pair};
 use crate::fault::PolicyFault;
-use crate::given::Given;
+use crate::partial::PartialPolicy;
 use crate::weighing::{choices_of, weights_of_whole, whole_weight};
 use spiel_frac::List;
 use spiel_tree::Tree;
@@ -51,7 +52,7 @@ fn weights_at(
 pub(crate) fn add_entry(
     alloc: Global,
     tree: &Tree,
-    given: &mut Given,
+    given: &mut PartialPolicy,
     number: u32,
     entry: &Entry,
 ) -> Result<(), PolicyFault>

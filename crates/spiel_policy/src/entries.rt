@@ -1,3 +1,4 @@
+//! Entries of a policy file and their pairs, read from JSON values.
 ghost use Rattle.std.specs.Prelude.{◌≡◌, Some, None, IfOk, IfSome, All, option_map};
 ghost use Rattle.serde_json.specs.View.{items_view, view};
 ghost use Rattle.spiel_frac.specs.Reading.{frac_of};

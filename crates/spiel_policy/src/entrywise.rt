@@ -4,7 +4,7 @@ ghost use Rattle.json.specs.Lex.{tokens};
 ghost use Rattle.json.specs.Token.{begin_array, begin_object, end_object, key, number, string};
 ghost use Rattle.spiel_tree.specs.Trees.{IsGameTree};
 ghost use Rattle.spiel_policy.specs.Entries.{IsFair};
-ghost use Rattle.spiel_policy.specs.Given.{IsFor};
+ghost use Rattle.spiel_policy.specs.Partial.{IsFor};
 ghost use Rattle.spiel_policy.specs.Profiles.{Fits};
 ghost use Rattle.spiel_policy.specs.Reading.{none_given, policy_of, profile_from, with_entry};
 ghost use Rattle.spiel_policy.specs.Fronts.{AreEntriesNext, ArePairsNext, IsEntryNext, IsFileNext, IsPairNext, IsWeightNext};
@@ -12,7 +12,7 @@ ghost use Rattle.spiel_policy.specs.Fronts.{AreEntriesNext, ArePairsNext, IsEntr
 use crate::adding::add_entry;
 use crate::entries::{Entry, Pair, not_negative};
 use crate::fault::PolicyFault;
-use crate::given::Given;
+use crate::partial::PartialPolicy;
 use crate::policy::Policy;
 use crate::tokens::{
     take_key, take_number, take_player, take_state, takes_actions, takes_array, takes_end,
@@ -204,7 +204,7 @@ fn take_entry(alloc: Global, reader: &mut Reader<'_>) -> Result<Option<Entry>, N
 fn adds_entry(
     alloc: Global,
     tree: &Tree,
-    given: &mut Given,
+    given: &mut PartialPolicy,
     number: u32,
     entry: &Entry,
 ) -> Result<bool, NoMemory>
@@ -226,11 +226,11 @@ fn take_entries(
     alloc: Global,
     tree: &Tree,
     reader: &mut Reader<'_>,
-) -> Result<Option<Given>, NoMemory>
+) -> Result<Option<PartialPolicy>, NoMemory>
     ensures next { IfOk result (λ found. IfSome found (λ given. AreEntriesNext tree.now (none_given tree.now) 0 given reader.old reader.new)) }
     ensures for_tree { IfOk result (λ found. IfSome found (IsFor tree.now)) }
 {
-    let mut given = Given::new(alloc, tree.states())?;
+    let mut given = PartialPolicy::new(alloc, tree.states())?;
     let mut number = 0u32;
     'entries: while !reader.take_end_array() {
         let Some(entry) = take_entry(alloc, reader)? else {
@@ -245,7 +245,11 @@ fn take_entries(
 }
 
 /// Takes a whole file.
-fn take_file(alloc: Global, tree: &Tree, reader: &mut Reader<'_>) -> Result<Option<Given>, NoMemory>
+fn take_file(
+    alloc: Global,
+    tree: &Tree,
+    reader: &mut Reader<'_>,
+) -> Result<Option<PartialPolicy>, NoMemory>
     ensures next { IfOk result (λ found. IfSome found (λ given. IsFileNext tree.now given reader.old [])) }
     ensures for_tree { IfOk result (λ found. IfSome found (IsFor tree.now)) }
 {
@@ -263,7 +267,11 @@ fn take_file(alloc: Global, tree: &Tree, reader: &mut Reader<'_>) -> Result<Opti
 }
 
 /// What the entries of a text give.
-fn given_by_text(alloc: Global, tree: &Tree, text: &str) -> Result<Option<Given>, NoMemory>
+fn partial_policy_in(
+    alloc: Global,
+    tree: &Tree,
+    text: &str,
+) -> Result<Option<PartialPolicy>, NoMemory>
     ensures next { IfOk result (λ found. IfSome found (λ given. IsFileNext tree.now given (tokens text.now) [])) }
     ensures for_tree { IfOk result (λ found. IfSome found (IsFor tree.now)) }
 {
@@ -273,12 +281,12 @@ fn given_by_text(alloc: Global, tree: &Tree, text: &str) -> Result<Option<Given>
 }
 
 /// The policy of what was given, if it has weights for each information state.
-fn policy_by(alloc: Global, tree: &Tree, given: &Given) -> Result<Option<Policy>, NoMemory>
+fn policy_by(alloc: Global, tree: &Tree, given: &PartialPolicy) -> Result<Option<Policy>, NoMemory>
     requires { IsFor tree.now given.now }
-    ensures answer { IfOk result (λ found. IfSome found (λ policy. profile_from 0 given.now ≡ Ok policy)) }
+    ensures answer { IfOk result (λ found. IfSome found (λ policy. profile_from tree.now 0 given.now ≡ Ok policy)) }
     ensures fits { IfOk result (λ found. IfSome found (Fits tree.now)) }
 {
-    match given.policy(alloc) {
+    match given.policy(alloc, tree) {
         Ok(policy) => Ok(Some(policy)),
         Err(PolicyFault::NoMemory) => Err(NoMemory),
         Err(_) => Ok(None),
@@ -299,7 +307,7 @@ pub(crate) fn usual_policy(
     let Ok(text) = str::from_utf8(bytes) else {
         return Ok(None);
     };
-    match given_by_text(alloc, tree, text)? {
+    match partial_policy_in(alloc, tree, text)? {
         Some(given) => policy_by(alloc, tree, &given),
         None => Ok(None),
     }

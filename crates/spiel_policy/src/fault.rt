@@ -1,15 +1,16 @@
+//! What is wrong with a policy file, and what each fault says.
 ghost use Rattle.std.specs.Prelude.{Some};
 ghost use Rattle.spiel_policy.specs.FaultTexts.{fault_text};
 
-use spiel_frac::NoMemory;
+use spiel_frac::{NoMemory, Text};
 use std::alloc::AllocError;
 use std::error::Error;
-use std::fmt;
+use std::{fmt, str};
 
 /// What is wrong with a policy file. `Json` comes before `Head`, and both before all else. The first
 /// entry with a fault decides, and in it the first of the faults from `Shape` to `Sum`. Entries are
 /// counted from 0.
-#[derive(Clone, Copy, Debug, PartialEq, Eq)]
+#[derive(Debug, Drop)]
 pub enum PolicyFault {
     /// The bytes are no JSON value.
     Json,
@@ -29,8 +30,8 @@ pub enum PolicyFault {
     Overflow { entry: u32 },
     /// The sum of the weights isn't 1.
     Sum { entry: u32 },
-    /// No entry is for this information state, and it is the first such.
-    Missing { state: u32 },
+    /// No entry is for the information state of this player with this text, and it is the first such.
+    Missing { player: u32, text: Text },
     /// Memory ran out.
     NoMemory,
 }
@@ -40,21 +41,44 @@ impl fmt::Display for PolicyFault {
 
     fn fmt<W: fmt::Write>(&self, f: &mut fmt::Formatter<W>) -> fmt::Result {
         match self {
-            PolicyFault::Json => write!(f, "not JSON"),
-            PolicyFault::Head => write!(f, "bad head"),
-            PolicyFault::Shape { entry } => write!(f, "bad shape in entry {entry}"),
-            PolicyFault::UnknownState { entry } => write!(f, "unknown state in entry {entry}"),
-            PolicyFault::Repeated { entry } => write!(f, "repeated state in entry {entry}"),
-            PolicyFault::Action { entry } => write!(f, "action in entry {entry}"),
-            PolicyFault::Overflow { entry } => write!(f, "numbers pass 127 bits in entry {entry}"),
-            PolicyFault::Sum { entry } => write!(f, "sum in entry {entry}"),
-            PolicyFault::Missing { state } => write!(f, "no entry for state {state}"),
+            PolicyFault::Json => write!(f, "policy: not JSON"),
+            PolicyFault::Head => write!(f, "policy: bad head"),
+            PolicyFault::Shape { entry } => write!(f, "policy: bad shape in entry {entry}"),
+            PolicyFault::UnknownState { entry } => {
+                write!(f, "policy: unknown state in entry {entry}")
+            }
+            PolicyFault::Repeated { entry } => {
+                write!(f, "policy: repeated state in entry {entry}")
+            }
+            PolicyFault::Action { entry } => write!(f, "policy: action in entry {entry}"),
+            PolicyFault::Overflow { entry: _ } => write!(f, "numbers pass 127 bits"),
+            PolicyFault::Sum { entry } => write!(f, "policy: sum in entry {entry}"),
+            PolicyFault::Missing { player, text } => {
+                let text = Shown(text);
+                write!(f, "policy: no entry for player {player} state {text}")
+            }
             PolicyFault::NoMemory => write!(f, "no memory"),
         }
     }
 }
 
 impl Error for PolicyFault {}
+
+/// What a player sees, byte for byte. It is ASCII; bytes that are no UTF-8 are an error, since a
+/// formatter takes none.
+#[derive(Clone, Copy)]
+struct Shown<'a>(&'a Text);
+
+impl fmt::Display for Shown<'_> {
+    ghost output = { λ shown. Some shown.0.now };
+
+    fn fmt<W: fmt::Write>(&self, f: &mut fmt::Formatter<W>) -> fmt::Result {
+        match str::from_utf8(self.0.bytes()) {
+            Ok(text) => f.write_str(text),
+            Err(_) => Err(fmt::Error),
+        }
+    }
+}
 
 impl From<NoMemory> for PolicyFault {
     ghost use Rattle.std.specs.Prelude.{◌≡◌};

@@ -1,3 +1,4 @@
+//! The JSON value of a policy file, its head, and its list of entries.
 ghost use Rattle.std.specs.Prelude.{◌≡◌, Some, Ok, codes, option_map, option_and_then, MatchResult};
 ghost use Rattle.std.specs.Option.{ok_or};
 ghost use Rattle.serde_json.specs.View.{items_view, view};

@@ -1,3 +1,4 @@
+//! A behaviour policy: whole weights for the numbers of each information state.
 ghost use Rattle.std.specs.Prelude.{◌≡◌, ◌<◌, length};
 ghost use Rattle.spiel_policy.specs.Profiles.{AreReduced, total, weight, weights_of};
 ghost use Rattle.spiel_policy.specs.Kept.{KeepsTotals};

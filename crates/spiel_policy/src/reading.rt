@@ -1,18 +1,17 @@
-ghost use Rattle.std.specs.Prelude.{◌≡◌, ◌<◌, ◌+◌, ℕ, Err, length, count_by, is_some, Ok, IfOk, OnOk, MatchResult};
+//! Reading a policy file: by its usual form, or else as any JSON value.
+ghost use Rattle.std.specs.Prelude.{◌≡◌, ◌+◌, count_by, is_some, Ok, IfOk, OnOk, MatchResult};
 ghost use Rattle.serde_json.specs.View.{items_view, view};
-ghost use Rattle.spiel_tree.specs.States.{states_below};
 ghost use Rattle.spiel_tree.specs.Trees.{IsGameTree};
-ghost use Rattle.spiel_policy.specs.Given.{IsFor};
+ghost use Rattle.spiel_policy.specs.Partial.{IsFor};
 ghost use Rattle.spiel_policy.specs.Reading.{IsComputed, none_given, policy_of, profile_of_data, with_data, with_entries};
 ghost use Rattle.spiel_policy.specs.Profiles.{Fits};
-ghost use Rattle.spiel_policy.specs.declared.fault.PolicyFault.TheVariants.{Missing};
 
 use crate::adding::add_entry;
 use crate::entries::entry_of;
 use crate::entrywise::usual_policy;
 use crate::fault::PolicyFault;
-use crate::given::Given;
 use crate::heads::{entries_of, json_of};
+use crate::partial::PartialPolicy;
 use crate::policy::Policy;
 use serde_json::Value;
 use spiel_tree::Tree;
@@ -22,7 +21,7 @@ use std::alloc::Global;
 fn take_entry(
     alloc: Global,
     tree: &Tree,
-    given: &mut Given,
+    given: &mut PartialPolicy,
     number: u32,
     value: &Value,
 ) -> Result<(), PolicyFault>
@@ -39,13 +38,13 @@ fn take_entry(
 }
 
 /// Takes the entries in order.
-fn take_entries(alloc: Global, tree: &Tree, values: &[Value]) -> Result<Given, PolicyFault>
+fn take_entries(alloc: Global, tree: &Tree, values: &[Value]) -> Result<PartialPolicy, PolicyFault>
     ensures answer { MatchResult result
         (λ given. with_entries tree.now (none_given tree.now) 0 (items_view values.now) ≡ Ok given)
         (IsComputed (with_entries tree.now (none_given tree.now) 0 (items_view values.now))) }
     ensures for_tree { IfOk result (IsFor tree.now) }
 {
-    let mut given = Given::new(alloc, tree.states())?;
+    let mut given = PartialPolicy::new(alloc, tree.states())?;
     let mut number = 0u32;
     for value in values {
         take_entry(alloc, tree, &mut given, number, value)?;
@@ -55,7 +54,6 @@ fn take_entries(alloc: Global, tree: &Tree, values: &[Value]) -> Result<Given, P
 }
 
 /// The policy that a JSON value gives for a tree.
-#[tactic(auto, using(crate::proofs::Steps::fits_if))]
 fn policy_of(alloc: Global, tree: &Tree, value: &Value) -> Result<Policy, PolicyFault>
     ensures answer { MatchResult result
         (λ policy. profile_of_data tree.now (view value.now) ≡ Ok policy)
@@ -64,7 +62,7 @@ fn policy_of(alloc: Global, tree: &Tree, value: &Value) -> Result<Policy, Policy
 {
     let entries = entries_of(value).ok_or(PolicyFault::Head)?;
     let given = take_entries(alloc, tree, entries)?;
-    given.policy(alloc)
+    given.policy(alloc, tree)
 }
 
 // The policy of a file for a tree, or the first thing that is wrong with the file.
@@ -109,7 +107,6 @@ pub fn read_policy(alloc: Global, tree: &Tree, bytes: &[u8]) -> Result<Policy, P
         (λ policy. policy_of tree.now bytes.now ≡ Ok policy)
         (IsComputed (policy_of tree.now bytes.now)) }
     ensures fits { IfOk result (Fits tree.now) }
-    ensures missing { (state : ℕ) → result ≡ Err (Missing state) → state < length (states_below tree.now.players tree.now.rows) }
 {
     read_file(alloc, tree, bytes)
 }

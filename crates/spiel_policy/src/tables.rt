@@ -1,3 +1,4 @@
+//! Tables of empty places.
 ghost use Rattle.std.specs.Prelude.{◌≡◌, None, IfOk, replicate};
 
 use spiel_frac::NoMemory;

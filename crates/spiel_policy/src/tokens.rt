@@ -1,3 +1,4 @@
+//! The tokens of a policy file in its usual form, taken one by one.
 ghost use Rattle.std.specs.Prelude.{◌≡◌, ◌∷◌, ◌<◌, [], codes, decimal, length, IfSome, IsTrue};
 ghost use Rattle.json.specs.Token.{begin_object, end_object, begin_array, end_array, key, number, string};
 

@@ -1,3 +1,4 @@
+//! The whole weights that the pairs of an entry give the numbers of an information state.
 ghost use Rattle.std.specs.Prelude.{◌≡◌, ◌≤◌, ◌<◌, ◌==◌, false, true, List, [], ◌∷◌, ◌++◌, length, map, sum, nat_le, nat_lt, slice_index, slice_index_or, if◌then◌else◌, Some, None, IfOk, IfSome, IfNone, All, option_map, MatchResult};
 ghost use Rattle.std.specs.Bool.{MatchBool};
 ghost use Rattle.std.specs.List.Sorted.{IsStrictlyIncreasing};

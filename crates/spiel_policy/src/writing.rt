@@ -1,3 +1,4 @@
+//! Writing a policy file, entry by entry.
 ghost use Rattle.std.specs.Prelude.{◌≡◌, ◌<◌, ◌≤◌, ◌++◌, [], ◌∷◌, Ok, codes, decimal, false, pos, length, nat_lt, string_bytes, IfOk, OnOk, OnErr, IsUtf8};
 ghost use Rattle.json.specs.Token.{begin_array, begin_object, end_array, end_object, key, number, string};
 ghost use Rattle.serde_json.specs.View.{items_of};

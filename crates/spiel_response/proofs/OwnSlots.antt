@@ -7,11 +7,11 @@ use Rattle.std.specs.Str.{bytes_eq}
 use Rattle.std.proofs.lemmas.Bool.{cond-true, false≢true}
 use Rattle.std.proofs.lemmas.Slice.Eq.{bytes_eq-Decides}
 use Rattle.spiel_tree.specs.FirstSeen.{place_of_text, text_at}
-use Rattle.spiel_tree.specs.Rows.{Row, Step}
+use Rattle.spiel_tree.specs.Rows.{Step}
 use Rattle.spiel_tree.specs.Flat.{moves, row_at}
-use Rattle.spiel_tree.specs.States.{InfoState, decides, first_row, state_at, state_number, texts_seen}
+use Rattle.spiel_tree.specs.States.{InfoState, first_row, state_at, state_number, texts_seen}
 use Rattle.spiel_tree.specs.Trees.{IsParent, last_index}
-use Rattle.spiel_tree.proofs.FirstRows.{first_row_there}
+use Rattle.spiel_tree.proofs.FirstRows.{first_decides, first_row_there}
 use Rattle.spiel_tree.proofs.Parents.{tree_root}
 use Rattle.spiel_tree.proofs.StateCounts.{text_number}
 use Rattle.spiel_tree.proofs.StateNumbers.{one_player_more, state_there}
@@ -93,15 +93,6 @@ own_slot_before j ok p k m l e =
     subst (λ (n : ℕ). n < slot_start j i) (last_below (slot_start j) i p steps (steps_below j.tree ok.game p k l e)) below
 
 -- each state is that of a row
-first_decides : (p : ℕ) (text : List ℕ) (rows : List Row) → first_row p text rows < length rows → decides p text (row_at rows (first_row p text rows)) ≡ true
-first_decides p text [] l = absurd (omega arith)
-first_decides p text (row ∷ rows) l = by (decides p text row) refl (first_decides p text rows) l
-  where
-    by : (b : Bool) → decides p text row ≡ b → (first_row p text rows < length rows → decides p text (row_at rows (first_row p text rows)) ≡ true)
-        → cond b 0 (suc (first_row p text rows)) < suc (length rows) → decides p text (row_at (row ∷ rows) (cond b 0 (suc (first_row p text rows)))) ≡ true
-    by true e later l = e
-    by false e later l = later (omega arith)
-
 both_true : (a b : Bool) → cond a b false ≡ true → (a ≡ true) × (b ≡ true)
 both_true true b e = (refl, e)
 both_true false b e = absurd (false≢true e)

@@ -79,7 +79,7 @@ pub record IsBest (j : Judged) (p : ℕ) (d : ℕ → ℕ) : Type 0 where
   pub profile : value_of j p ≤ℤ earned_by j p d
 
 -- ---- how far the profile is from an equilibrium
--- what the players below n gain if each alone goes over to the response
+-- what the players below n gain if each deviates alone to the response
 abbrev pub gains_below : Judged → ℕ → ℤ
 gains_below j zero = pos 0
 gains_below j (suc n) = gains_below j n +ℤ (best_value j n -ℤ value_of j n)

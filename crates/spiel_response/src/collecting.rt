@@ -1,3 +1,4 @@
+//! Each leaf of a tree, added to the slot of a player's last own step before it.
 ghost use Rattle.std.specs.Prelude.{◌≡◌, ◌+◌, ◌<◌, ◌≤◌, length, slice_index_or, slice_set, pos, Some, ◌+ℤ◌, nat_abs};
 ghost use Rattle.spiel_frac.specs.Fraction.{most};
 ghost use Rattle.spiel_tree.specs.Flat.{row_at};
@@ -8,10 +9,10 @@ ghost use Rattle.spiel_response.specs.Weighed.{IsJudgeable};
 ghost use Rattle.spiel_response.specs.SlotTable.{AreCollected, AreCollectedBefore, AreParentSlots, AreParentSlotsBefore, AreSlotStarts, own_slot, slot_count};
 
 use crate::factors::{is_left_out, mover_state, weight_at};
-use crate::reach::{reach_below, share};
+use crate::reach::{certain_share, reach_below};
 use crate::slots::slot_below;
 use crate::sums::part;
-use crate::weighed::Weighed;
+use crate::weighed::WeighedTree;
 use spiel_api::Place;
 
 /// Adds to the sum in a slot.
@@ -25,7 +26,7 @@ fn add_at(sums: &mut [i128], slot: usize, part: i128)
 
 /// Adds a leaf's part to the sum in the slot of the player's last own step.
 fn add_leaf(
-    weighed: &Weighed,
+    weighed: &WeighedTree,
     counterfactual: u128,
     slot: usize,
     player: u32,
@@ -52,7 +53,7 @@ fn add_leaf(
 }
 
 /// Notes the slot before the information state of a history, if the player moves there.
-fn note_parent(weighed: &Weighed, slot: usize, player: u32, row: u32, parents: &mut [usize])
+fn note_parent(weighed: &WeighedTree, slot: usize, player: u32, row: u32, parents: &mut [usize])
     requires player { player < weighed.now.tree.players }
     requires within { row < length weighed.now.tree.rows }
     requires slot { slot ≡ own_slot weighed.now player (row_at weighed.now.tree.rows row) }
@@ -70,7 +71,7 @@ fn note_parent(weighed: &Weighed, slot: usize, player: u32, row: u32, parents: &
 /// all histories of the state, since the player remembers the own choices. Answers where the first
 /// history stands that doesn't go on from this one.
 fn collect_from(
-    weighed: &Weighed,
+    weighed: &WeighedTree,
     starts: &[usize],
     counterfactual: u128,
     slot: usize,
@@ -101,13 +102,7 @@ fn collect_from(
     if count == 0 {
         return next;
     }
-    let certain = share(
-        weighed,
-        Some(player),
-        counterfactual,
-        weighed.total(row),
-        row,
-    );
+    let certain = certain_share(weighed, player, counterfactual, row);
     for index in 0..count {
         let weight = weight_at(tree, weighed.policy, row, index);
         next = collect_from(
@@ -127,7 +122,7 @@ fn collect_from(
 /// Adds the parts of all leaves to the sums in the slots of a player's last own steps, and notes the slot
 /// before each information state of the player.
 pub(crate) fn collect(
-    weighed: &Weighed,
+    weighed: &WeighedTree,
     starts: &[usize],
     scale: u128,
     player: u32,

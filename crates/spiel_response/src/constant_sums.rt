@@ -1,3 +1,4 @@
+//! Whether the returns of two players sum to one number at all leaves.
 ghost use Rattle.std.specs.Prelude.{◌≡◌, ◌<◌, ◌≤◌, ℕ, length, true, false, [], ◌∷◌};
 ghost use Rattle.spiel_api.specs.declared.place.Place.TheVariants.{End};
 ghost use Rattle.spiel_tree.specs.Flat.{row_at};

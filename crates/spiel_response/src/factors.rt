@@ -1,3 +1,4 @@
+//! The weight of a step in the tree, of chance or of a player, and the total of the weights there.
 ghost use Rattle.std.specs.Prelude.{◌≡◌, ◌<◌, length, sum, Some};
 ghost use Rattle.spiel_api.specs.declared.place.Place.TheVariants.{Chance, Move};
 ghost use Rattle.spiel_tree.specs.Flat.{row_at};

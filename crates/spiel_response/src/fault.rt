@@ -1,3 +1,4 @@
+//! Why a policy isn't judged, and what each fault says.
 ghost use Rattle.std.specs.Prelude.{Some};
 ghost use Rattle.spiel_response.specs.FaultTexts.{fault_text};
 

@@ -1,17 +1,17 @@
-ghost use Rattle.std.specs.Prelude.{◌≡◌, ◌+◌, ◌<◌, ◌≤◌, replicate, pos, IfOk};
+//! What best responses are made from, gathered player by player.
+ghost use Rattle.std.specs.Prelude.{◌≡◌, ◌≤◌, replicate, pos, IfOk};
 ghost use Rattle.spiel_frac.specs.Fraction.{most};
 ghost use Rattle.spiel_response.specs.Reach.{scale_of};
-ghost use Rattle.spiel_response.specs.Values.{size_below, size_for};
-ghost use Rattle.spiel_response.specs.Weighed.{IsJudgeable};
+ghost use Rattle.spiel_response.specs.Values.{size_below};
 ghost use Rattle.spiel_response.specs.SlotTable.{AreSlotSums};
 
 use crate::collecting::collect;
 use crate::slots::slot_starts;
-use crate::weighed::Weighed;
+use crate::weighed::WeighedTree;
 use spiel_frac::{List, NoMemory};
 use std::alloc::Global;
 
-/// What responses are made from, while it is gathered player by player.
+/// What responses are made from.
 #[derive(Drop)]
 pub(crate) struct Gathered {
     /// Where the slots of each information state begin, and last how many slots there are.
@@ -43,7 +43,7 @@ fn no_slots(alloc: Global, count: usize) -> Result<Vec<usize>, NoMemory>
 }
 
 /// Before any player.
-pub(crate) fn nothing_gathered(alloc: Global, weighed: &Weighed) -> Result<Gathered, NoMemory>
+fn nothing_gathered(alloc: Global, weighed: &WeighedTree) -> Result<Gathered, NoMemory>
     ensures { IfOk result (λ gathered. AreSlotSums weighed.now 0 gathered.starts gathered.sums.items gathered.parents.items) }
 {
     let tree = weighed.tree;
@@ -58,22 +58,28 @@ pub(crate) fn nothing_gathered(alloc: Global, weighed: &Weighed) -> Result<Gathe
     })
 }
 
-/// With one player more.
-pub(crate) fn gather(weighed: &Weighed, scale: u128, player: u32, gathered: &mut Gathered)
-    requires judgeable { IsJudgeable weighed.now }
-    requires player { player < weighed.now.tree.players }
+/// Gathers what the responses of all players are made from.
+pub(crate) fn gather(
+    alloc: Global,
+    weighed: &WeighedTree,
+    scale: u128,
+) -> Result<Gathered, NoMemory>
     requires scale { scale ≡ scale_of weighed.now.tree.rows weighed.now.profile }
     requires fits { scale ≤ most }
-    requires small { size_below weighed.now player + size_for weighed.now player ≤ most }
-    requires before { AreSlotSums weighed.now player gathered.old.starts gathered.old.sums.items gathered.old.parents.items }
-    ensures { AreSlotSums weighed.now (player + 1) gathered.new.starts gathered.new.sums.items gathered.new.parents.items }
+    requires sizes { size_below weighed.now weighed.now.tree.players ≤ most }
+    ensures { IfOk result (λ gathered. AreSlotSums weighed.now weighed.now.tree.players gathered.starts gathered.sums.items gathered.parents.items) }
 {
-    collect(
-        weighed,
-        gathered.starts.items(),
-        scale,
-        player,
-        &mut gathered.sums,
-        &mut gathered.parents,
-    );
+    let tree = weighed.tree;
+    let mut gathered = nothing_gathered(alloc, weighed)?;
+    for player in 0..tree.players() {
+        collect(
+            weighed,
+            gathered.starts.items(),
+            scale,
+            player,
+            &mut gathered.sums,
+            &mut gathered.parents,
+        );
+    }
+    Ok(gathered)
 }

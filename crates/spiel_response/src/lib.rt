@@ -1,4 +1,4 @@
-//! What policies are worth: exact values over the tree of a game.
+//! What a policy is worth, and the best responses to it: exact values over the tree of a game.
 #![tactic(auto)]
 
 mod collecting;

@@ -1,3 +1,4 @@
+//! Reach weights, passed on from a history to those that go on from it.
 ghost use Rattle.std.specs.Prelude.{◌≡◌, ◌<◌, ◌≤◌, length, Some, None};
 ghost use Rattle.spiel_frac.specs.Fraction.{most};
 ghost use Rattle.spiel_tree.specs.Flat.{row_at};
@@ -6,12 +7,12 @@ ghost use Rattle.spiel_response.specs.Reach.{reach, scale_of, total_of, weight_b
 ghost use Rattle.spiel_response.specs.Weighed.{IsJudgeable, share_of};
 
 use crate::factors::is_left_out;
-use crate::weighed::Weighed;
+use crate::weighed::WeighedTree;
 
 /// The reach weight of a history over the total of the weights there, or all of it where whoever moves
 /// there is left out.
 pub(crate) fn share(
-    weighed: &Weighed,
+    weighed: &WeighedTree,
     left: Option<u32>,
     reached: u128,
     total: u128,
@@ -28,9 +29,21 @@ pub(crate) fn share(
     reached / total
 }
 
+/// The same where this player is left out: at the player's own histories no total is needed.
+pub(crate) fn certain_share(weighed: &WeighedTree, player: u32, reached: u128, row: u32) -> u128
+    requires within { row < length weighed.now.tree.rows }
+    requires reached { reached ≡ reach weighed.now.tree.rows weighed.now.profile (Some player) (row_at weighed.now.tree.rows row) }
+    ensures { result ≡ share_of weighed.now (Some player) (row_at weighed.now.tree.rows row) }
+{
+    if is_left_out(weighed.tree, Some(player), row) {
+        return reached;
+    }
+    share(weighed, Some(player), reached, weighed.total(row), row)
+}
+
 /// The reach weight of what is behind a history by the number at an index.
 pub(crate) fn reach_below(
-    weighed: &Weighed,
+    weighed: &WeighedTree,
     left: Option<u32>,
     share: u128,
     weight: u128,

@@ -1,3 +1,4 @@
+//! The best response of one player, made from the last information state to the first.
 ghost use Rattle.std.specs.Prelude.{◌≡◌, ◌≢◌, ℕ, ◌+◌, ◌<◌, ◌≤◌, length, pos, slice_index, slice_index_or, slice_set, ◌+ℤ◌, nat_abs};
 ghost use Rattle.spiel_frac.specs.Fraction.{most};
 ghost use Rattle.spiel_tree.specs.States.{states_below};
@@ -8,7 +9,7 @@ ghost use Rattle.spiel_response.specs.Values.{NumbersFit};
 ghost use Rattle.spiel_response.specs.Weighed.{IsJudgeable};
 ghost use Rattle.spiel_response.specs.SlotTable.{AreCollected};
 
-use crate::table::Table;
+use crate::table::SlotTable;
 use spiel_tree::Tree;
 
 /// The place of the first of the greatest sums.
@@ -41,7 +42,7 @@ fn take_greatest(sums: &mut [i128], start: usize, count: usize, parent: usize) -
 }
 
 /// Answers one information state of a player, when those behind it are answered.
-fn pass_state(table: &Table, player: u32, state: u32, sums: &mut [i128], answers: &mut [u32])
+fn pass_state(table: &SlotTable, player: u32, state: u32, sums: &mut [i128], answers: &mut [u32])
     requires player { player < table.now.tree.players }
     requires from { first_state table.now player ≤ state }
     requires to { state < first_state table.now (player + 1) }
@@ -63,7 +64,7 @@ fn pass_state(table: &Table, player: u32, state: u32, sums: &mut [i128], answers
 
 /// Makes the response of the player whose information states are these, and answers what it earns.
 pub(crate) fn pass_back(
-    table: &Table,
+    table: &SlotTable,
     player: u32,
     low: u32,
     high: u32,
@@ -103,7 +104,7 @@ pub(crate) fn player_start(tree: &Tree, player: u32) -> u32
 
 /// Makes the response of a player, and answers what it earns.
 pub(crate) fn make_response(
-    table: &Table,
+    table: &SlotTable,
     player: u32,
     sums: &mut [i128],
     answers: &mut [u32],

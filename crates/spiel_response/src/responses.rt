@@ -1,3 +1,4 @@
+//! The best responses that are made so far.
 ghost use Rattle.std.specs.Prelude.{◌≡◌, ◌≤◌, ◌<◌, length, pos, replicate, slice_set, false, true, nat_abs, IfOk};
 ghost use Rattle.spiel_frac.specs.Fraction.{most};
 ghost use Rattle.spiel_response.specs.Answered.{HasRoom, IsAnswered};
@@ -5,7 +6,7 @@ ghost use Rattle.spiel_response.specs.BestResponses.{best_value};
 
 use crate::gathering::no_sums;
 use crate::responding::make_response;
-use crate::table::Table;
+use crate::table::SlotTable;
 use spiel_frac::NoMemory;
 use std::alloc::Global;
 
@@ -64,7 +65,7 @@ pub(crate) fn no_responses(
 
 impl Responses {
     /// Makes the response of a player, and answers what it earns.
-    pub fn make(&mut self, table: &Table, player: u32) -> i128
+    pub fn make(&mut self, table: &SlotTable, player: u32) -> i128
         requires player { player < table.now.tree.players }
         requires before { IsAnswered (record { judged = table.now; made = self.old.made.items }) self.old.earned.items self.old.answers.items self.old.sums.items }
         ensures made { self.new.made.items ≡ slice_set self.old.made.items player true }

@@ -1,3 +1,4 @@
+//! The common denominator of all leaves of a tree with a policy.
 ghost use Rattle.std.specs.Prelude.{◌≡◌, ◌*◌, ◌+◌, ◌<◌, ◌≤◌, length, None, IfErr, IfNone, IfOk, IfSome, OnSome};
 ghost use Rattle.spiel_frac.specs.Fraction.{most};
 ghost use Rattle.spiel_tree.specs.Flat.{row_at};
@@ -7,7 +8,7 @@ ghost use Rattle.spiel_response.specs.Reach.{scale_of, total_of, totals_to};
 ghost use Rattle.spiel_response.specs.Weighed.{IsJudgeable, scale_before};
 
 use crate::fault::JudgeFault;
-use crate::weighed::Weighed;
+use crate::weighed::WeighedTree;
 use spiel_api::Place;
 use spiel_frac::lcm;
 
@@ -26,7 +27,7 @@ fn times(a: u128, b: u128) -> Option<u128>
 }
 
 /// The product of the totals on the way to what is one number behind a history.
-fn product_below(weighed: &Weighed, product: u128, row: u32) -> Option<u128>
+fn product_below(weighed: &WeighedTree, product: u128, row: u32) -> Option<u128>
     requires judgeable { IsJudgeable weighed.now }
     requires within { row < length weighed.now.tree.rows }
     requires goes_on { 0 < length (row_at weighed.now.tree.rows row).here.numbers }
@@ -38,7 +39,7 @@ fn product_below(weighed: &Weighed, product: u128, row: u32) -> Option<u128>
 }
 
 /// The scale of the histories before the next one, from that of the histories before this one.
-fn scale_with(weighed: &Weighed, scale: u128, product: u128, row: u32) -> Option<u128>
+fn scale_with(weighed: &WeighedTree, scale: u128, product: u128, row: u32) -> Option<u128>
     requires within { row < length weighed.now.tree.rows }
     requires product { product ≡ totals_to weighed.now.tree.rows weighed.now.profile None (row_at weighed.now.tree.rows row) }
     requires before { scale ≡ scale_before weighed.now row }
@@ -55,7 +56,7 @@ fn scale_with(weighed: &Weighed, scale: u128, product: u128, row: u32) -> Option
 
 /// Goes from the scale of the histories before one to that of all before the first that doesn't go on
 /// from it, and answers where that one stands. The product of the totals on the way is given.
-fn scale_from(weighed: &Weighed, product: u128, row: u32, scale: &mut u128) -> Option<u32>
+fn scale_from(weighed: &WeighedTree, product: u128, row: u32, scale: &mut u128) -> Option<u32>
     requires within { row < length weighed.now.tree.rows }
     requires product { product ≡ totals_to weighed.now.tree.rows weighed.now.profile None (row_at weighed.now.tree.rows row) }
     requires before { scale.old ≡ scale_before weighed.now row }
@@ -80,7 +81,7 @@ fn scale_from(weighed: &Weighed, product: u128, row: u32, scale: &mut u128) -> O
 }
 
 /// The scale of a tree with a policy.
-pub(crate) fn scale(weighed: &Weighed) -> Result<u128, JudgeFault>
+pub(crate) fn scale(weighed: &WeighedTree) -> Result<u128, JudgeFault>
     requires { IsJudgeable weighed.now }
     ensures ok { IfOk result (λ n. (n ≡ scale_of weighed.now.tree.rows weighed.now.profile) × (n ≤ most)) }
     ensures fault { IfErr result (OverflowsOnlyIf (most < scale_of weighed.now.tree.rows weighed.now.profile)) }

@@ -1,16 +1,17 @@
+//! Slots, in which the leaves are summed by a player's last own step.
 ghost use Rattle.std.specs.Prelude.{◌≡◌, ◌<◌, length, IfOk};
 ghost use Rattle.spiel_tree.specs.Flat.{row_at};
 ghost use Rattle.spiel_tree.specs.Subtrees.{child_at};
 ghost use Rattle.spiel_response.specs.SlotTable.{AreSlotStarts, own_slot};
 
 use crate::factors::{is_left_out, mover_state};
-use crate::weighed::Weighed;
+use crate::weighed::WeighedTree;
 use spiel_frac::{List, NoMemory};
 use std::alloc::Global;
 
 /// Where the slots of each information state begin, and last how many slots there are. There is a
 /// slot for each player, and behind them one for each number of each information state.
-pub(crate) fn slot_starts(alloc: Global, weighed: &Weighed) -> Result<List<usize>, NoMemory>
+pub(crate) fn slot_starts(alloc: Global, weighed: &WeighedTree) -> Result<List<usize>, NoMemory>
     ensures { IfOk result (AreSlotStarts weighed.now) }
 {
     let tree = weighed.tree;
@@ -27,7 +28,7 @@ pub(crate) fn slot_starts(alloc: Global, weighed: &Weighed) -> Result<List<usize
 /// The slot of a player's last own step on the way to what is behind a history by the number at an
 /// index.
 pub(crate) fn slot_below(
-    weighed: &Weighed,
+    weighed: &WeighedTree,
     starts: &[usize],
     player: u32,
     above: usize,

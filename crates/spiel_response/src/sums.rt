@@ -1,4 +1,5 @@
-ghost use Rattle.std.specs.Prelude.{◌≡◌, ◌+◌, ◌<◌, ◌≤◌, length, pos, Some, None, IfErr, IfNone, IfOk, IfSome, OnOk, OnSome, ◌+ℤ◌, ◌*ℤ◌, nat_abs};
+//! What each player gets on average: the sums over all leaves, if they fit into 127 bits.
+ghost use Rattle.std.specs.Prelude.{◌≡◌, ◌+◌, ◌<◌, ◌≤◌, length, pos, Some, None, IfErr, IfNone, IfOk, IfSome, OnSome, ◌+ℤ◌, ◌*ℤ◌, nat_abs};
 ghost use Rattle.spiel_frac.specs.Fraction.{most};
 ghost use Rattle.spiel_tree.specs.Flat.{row_at};
 ghost use Rattle.spiel_tree.specs.Subtrees.{end_of};
@@ -6,15 +7,13 @@ ghost use Rattle.spiel_response.specs.Faults.{OverflowsOnlyIf};
 ghost use Rattle.spiel_response.specs.Reach.{reach, scale_of};
 ghost use Rattle.spiel_response.specs.Values.{size_below, size_for, values_below};
 ghost use Rattle.spiel_response.specs.Weighed.{IsJudgeable, size_before};
-ghost use Rattle.spiel_response.specs.SlotTable.{AreSlotSums};
 ghost use Rattle.spiel_response.specs.Summed.{AreSums, ArePlayerSums};
 
 use crate::factors::weight_at;
 use crate::fault::JudgeFault;
-use crate::gathering::{Gathered, gather};
 use crate::reach::{reach_below, share};
 use crate::scale::MOST;
-use crate::weighed::Weighed;
+use crate::weighed::WeighedTree;
 use spiel_api::Place;
 use spiel_frac::List;
 use std::alloc::Global;
@@ -72,7 +71,7 @@ fn with_leaf(sums: Sums, reached: u128, counterfactual: u128, pay: i64) -> Optio
 
 /// The sums with one history more.
 fn with_row(
-    weighed: &Weighed,
+    weighed: &WeighedTree,
     sums: Sums,
     reached: u128,
     counterfactual: u128,
@@ -98,7 +97,7 @@ fn with_row(
 /// Goes from the sums over the leaves before a history to those over all before the first that doesn't
 /// go on from it, and answers where that one stands. The reach weights of the history are given.
 fn sums_from(
-    weighed: &Weighed,
+    weighed: &WeighedTree,
     reached: u128,
     counterfactual: u128,
     player: u32,
@@ -142,7 +141,7 @@ fn sums_from(
 }
 
 /// The sums of a player over all leaves, with the size of what was summed before.
-fn player_sums(weighed: &Weighed, scale: u128, player: u32, size: u128) -> Option<Sums>
+fn player_sums(weighed: &WeighedTree, scale: u128, player: u32, size: u128) -> Option<Sums>
     requires judgeable { IsJudgeable weighed.now }
     requires player { player < weighed.now.tree.players }
     requires size { size ≤ most }
@@ -156,19 +155,16 @@ fn player_sums(weighed: &Weighed, scale: u128, player: u32, size: u128) -> Optio
     Some(sums)
 }
 
-/// What each player gets on average. What responses are made from is gathered on the way.
+/// What each player gets on average.
 pub(crate) fn values(
     alloc: Global,
-    weighed: &Weighed,
+    weighed: &WeighedTree,
     scale: u128,
-    gathered: &mut Gathered,
 ) -> Result<List<i128>, JudgeFault>
     requires scale { scale ≡ scale_of weighed.now.tree.rows weighed.now.profile }
     requires small { scale ≤ most }
-    requires gathered { AreSlotSums weighed.now 0 gathered.old.starts gathered.old.sums.items gathered.old.parents.items }
     ensures values { IfOk result (λ values. values ≡ values_below weighed.now weighed.now.tree.players) }
     ensures sizes { IfOk result (λ values. size_below weighed.now weighed.now.tree.players ≤ most) }
-    ensures gathered { OnOk result (AreSlotSums weighed.now weighed.now.tree.players gathered.new.starts gathered.new.sums.items gathered.new.parents.items) }
     ensures fault { IfErr result (OverflowsOnlyIf (most < size_below weighed.now weighed.now.tree.players)) }
 {
     let tree = weighed.tree;
@@ -178,7 +174,6 @@ pub(crate) fn values(
         let Some(sums) = player_sums(weighed, scale, player, size) else {
             return Err(JudgeFault::Overflow);
         };
-        gather(weighed, scale, player, gathered);
         values.push(sums.value)?;
         size = sums.size;
     }

@@ -1,3 +1,4 @@
+//! A tree and a policy with what best responses are made from, as one value to read.
 ghost use Rattle.std.specs.Prelude.{◌≡◌, ℕ, ◌+◌, ◌<◌, ◌≤◌, length, pos, slice_index_or};
 ghost use Rattle.spiel_response.specs.BestResponses.{count_at};
 ghost use Rattle.spiel_response.specs.SlotTable.{AreCollected, IsParentSlot, slot_count, slot_start, state_count};
@@ -9,13 +10,13 @@ use std::marker::Model;
 
 /// A tree and a policy for it, with what responses are made from.
 #[derive(Drop)]
-pub(crate) struct Table<'a> {
+pub(crate) struct SlotTable<'a> {
     pub tree: &'a Tree,
     pub policy: &'a Policy,
     pub gathered: Gathered,
 }
 
-impl<'a> Model for Table<'a> {
+impl<'a> Model for SlotTable<'a> {
     ghost use Rattle.spiel_response.specs.Values.{Judged};
     ghost use Rattle.spiel_response.specs.SlotTable.{IsSlotTable};
 
@@ -26,7 +27,7 @@ impl<'a> Model for Table<'a> {
     ghost invariant = { λ t. IsSlotTable (record { tree = t.tree.now; profile = t.policy.now }) t.gathered.starts t.gathered.sums.items t.gathered.parents.items };
 }
 
-impl<'a> Table<'a> {
+impl<'a> SlotTable<'a> {
     /// The tree.
     pub fn tree(&self) -> &Tree
         ensures { result.now ≡ self.now.tree }

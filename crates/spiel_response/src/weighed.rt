@@ -1,3 +1,4 @@
+//! A tree and a policy for it, with the total of the weights at each history.
 ghost use Rattle.std.specs.Prelude.{◌≡◌, ◌<◌, length};
 ghost use Rattle.spiel_tree.specs.Flat.{row_at};
 ghost use Rattle.spiel_response.specs.Reach.{total_of};
@@ -10,12 +11,12 @@ use std::marker::Model;
 
 /// A tree and a policy for it.
 #[derive(Drop)]
-pub(crate) struct Weighed<'a> {
+pub(crate) struct WeighedTree<'a> {
     pub tree: &'a Tree,
     pub policy: &'a Policy,
 }
 
-impl<'a> Model for Weighed<'a> {
+impl<'a> Model for WeighedTree<'a> {
     ghost use Rattle.spiel_response.specs.Values.{Judged};
     ghost use Rattle.spiel_response.specs.Weighed.{IsJudgeable};
 
@@ -26,14 +27,14 @@ impl<'a> Model for Weighed<'a> {
     ghost invariant = { λ w. IsJudgeable (record { tree = w.tree.now; profile = w.policy.now }) };
 }
 
-impl<'a> Weighed<'a> {
+impl<'a> WeighedTree<'a> {
     /// A tree and a policy for it.
-    pub fn new(tree: &'a Tree, policy: &'a Policy) -> Weighed<'a>
+    pub fn new(tree: &'a Tree, policy: &'a Policy) -> WeighedTree<'a>
         requires { IsJudgeable (record { tree = tree.now; profile = policy.now }) }
         ensures judged { result ≡ record { tree = tree.now; profile = policy.now } }
         ensures judgeable { IsJudgeable result }
     {
-        Weighed { tree, policy }
+        WeighedTree { tree, policy }
     }
 
     /// What the weights at a history sum to.

@@ -1,3 +1,4 @@
+//! The public calls that judge a policy: values, best responses, NashConv, constant sums.
 ghost use Rattle.std.specs.Prelude.{◌≡◌, ◌≢◌, ℕ, length, slice_index, Contains, ◌*◌, ◌<◌, ◌≤◌, map, pos, false, true, None, IfErr, IfNone, IfOk, IfSome, ◌-ℤ◌, ◌*ℤ◌, ◌<ℤ◌, ◌≤ℤ◌, nat_abs};
 ghost use Rattle.spiel_frac.specs.Fraction.{most};
 ghost use Rattle.spiel_frac.specs.Multiples.{IsLeastMultiple};
@@ -11,12 +12,12 @@ ghost use Rattle.spiel_response.specs.Values.{NumbersFit, denominator_of, size_f
 
 use crate::constant_sums::has_constant_sum;
 use crate::fault::JudgeFault;
-use crate::gathering::nothing_gathered;
+use crate::gathering::gather;
 use crate::responses::{Responses, no_responses};
 use crate::scale::{MOST, scale};
 use crate::sums::values;
-use crate::table::Table;
-use crate::weighed::Weighed;
+use crate::table::SlotTable;
+use crate::weighed::WeighedTree;
 use spiel_frac::List;
 use spiel_policy::Policy;
 use spiel_tree::Tree;
@@ -27,7 +28,7 @@ use std::marker::Model;
 /// 127 bits, and no call takes memory.
 #[derive(Drop)]
 pub struct Work<'a> {
-    table: Table<'a>,
+    table: SlotTable<'a>,
     total: i128,
     values: List<i128>,
     responses: Responses,
@@ -73,16 +74,16 @@ pub fn prepare<'a>(
     ensures fault { IfErr result (OverflowsOnlyIf (NumbersFit (record { tree = tree.now; profile = policy.now }) → ⊥)) }
 {
     let states = tree.states() as usize;
-    let weighed = Weighed::new(tree, policy);
+    let weighed = WeighedTree::new(tree, policy);
     let scale = scale(&weighed)?;
     let Some(total) = denominator(scale, tree.unit()) else {
         return Err(JudgeFault::Overflow);
     };
-    let mut gathered = nothing_gathered(alloc, &weighed)?;
-    let values = values(alloc, &weighed, scale, &mut gathered)?;
+    let values = values(alloc, &weighed, scale)?;
+    let gathered = gather(alloc, &weighed, scale)?;
     let responses = no_responses(alloc, tree.players() as usize, states, gathered.sums.len())?;
     Ok(Work {
-        table: Table {
+        table: SlotTable {
             tree,
             policy,
             gathered,
@@ -116,9 +117,9 @@ pub fn value(work: &Work, player: u32) -> i128
 }
 
 /// Makes the best response of a player to what the policy has the others do, and answers what the
-/// player gets by it: this number over `Work::total`. No policy of the player gets more. At each
-/// information state the response takes the first of the numbers that are best given what it does
-/// later. The responses of other players stay.
+/// player gets by it: this number over `Work::total`. No policy of the player whose probabilities are
+/// fractions gets more. At each information state the response takes the first of the numbers that are
+/// best given what it does later. The responses of other players stay.
 pub fn respond(work: &mut Work, player: u32) -> i128
     requires { player < work.old.judged.tree.players }
     ensures judged { work.new.judged ≡ work.old.judged }
@@ -154,8 +155,8 @@ fn gain(work: &Work, player: u32) -> i128
     work.responses.earned[player as usize] - value(work, player)
 }
 
-/// How far the policy is from an equilibrium: what the players gain in all, if each alone goes over to
-/// the best response. This number over `Work::total` is NashConv (Lanctot et al. 2017).
+/// How far the policy is from an equilibrium: what the players gain in all, if each deviates alone to the
+/// best response. This number over `Work::total` is NashConv (Lanctot et al. 2017).
 pub fn nash_conv(work: &Work) -> i128
     requires { (p : ℕ) → p < work.now.judged.tree.players → is_made work.now p ≡ true }
     ensures gains { result ≡ nash_conv_of work.now.judged }

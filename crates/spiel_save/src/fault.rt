@@ -1,3 +1,4 @@
+//! What is wrong with a saved file, and what each fault says.
 ghost use Rattle.std.specs.Prelude.{Some};
 ghost use Rattle.spiel_save.specs.Faults.{fault_text, in_game};
 

@@ -1,3 +1,4 @@
+//! The lines of a saved file above its numbers.
 ghost use Rattle.std.specs.Prelude.{◌≡◌, ◌+◌, ◌<◌, ◌^◌, length, None, Some, IfSome, MatchOption};
 ghost use Rattle.spiel_save.specs.Lines.{kept_from};
 ghost use Rattle.spiel_save.specs.Saved.{body_of, is_header};

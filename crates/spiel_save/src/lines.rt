@@ -1,3 +1,4 @@
+//! The lines of a saved file that are kept: neither empty nor comments.
 ghost use Rattle.std.specs.Prelude.{◌≡◌, ◌∷◌, ◌+◌, ◌<◌, ◌≤◌, ◌==◌, ◌^◌, [], length, IfSome, MatchOption};
 ghost use Rattle.spiel_save.specs.Lines.{is_kept, kept_from, lines_of};
 

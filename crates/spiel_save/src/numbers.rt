@@ -1,3 +1,4 @@
+//! The numbers on the lines of a saved file.
 ghost use Rattle.std.specs.Prelude.{◌≡◌, ◌<◌, ◌+◌, ◌^◌, length, IfOk, IfErr, Ok};
 ghost use Rattle.spiel_save.specs.Lines.{kept_from};
 ghost use Rattle.spiel_save.specs.Numbers.{numbers_of, IsNumberFault};

@@ -1,3 +1,4 @@
+//! Reading a saved file, or its first fault.
 ghost use Rattle.std.specs.Prelude.{◌≡◌, ◌≤◌, length, ℕ, List, Ok, IfOk, IfErr, MatchResult};
 ghost use Rattle.spiel_string.specs.Game.{Game};
 ghost use Rattle.spiel_string.specs.View.{view};

@@ -1,3 +1,4 @@
+//! What a saved file has, a game and a history, and the state to which they lead.
 ghost use Rattle.std.specs.Prelude.{◌≡◌, None, IfOk, IfErr, OnOk, MatchResult};
 ghost use Rattle.spiel_api.specs.States.{StandsFor};
 ghost use Rattle.spiel_api.specs.Walks.{IsFinished, HasWalkFault, walk_fault, IsComputed};

@@ -1,8 +1,7 @@
 -- 1 to 18 digits, and the number that they are.
-use Rattle.std.proofs.Common.{◌≡◌, ◌<◌, ◌≤◌, ◌^◌, ℕ, true, List, length, Option, Some, None, sym, ap, ◌∙◌, arith}
-use Rattle.std.specs.Prelude.{if◌then◌else◌, IfSome, nat_lt, nat_le}
+use Rattle.std.proofs.Common.{◌≡◌, ◌<◌, ◌≤◌, ◌^◌, ℕ, true, List, length, Some, None, sym, ap, ◌∙◌}
+use Rattle.std.specs.Prelude.{if◌then◌else◌, nat_lt, nat_le}
 use Rattle.std.specs.List.{list_all}
-use Rattle.std.specs.Option.{SomeIff}
 use Rattle.std.specs.Char.{is_ascii_digit}
 use Rattle.std.specs.Str.Parse.{digits_value}
 use Rattle.std.proofs.lemmas.Bool.{and_parts, leb-true, ltb-true}
@@ -19,10 +18,5 @@ are_digits-parts bytes h =
 pub digits_small : (bytes : List ℕ) → are_digits bytes ≡ true → digits_value 10 bytes < 10 ^ 18
 digits_small bytes h = let parts = are_digits-parts bytes h in digits_value_short numerals bytes 18 parts.2 parts.1
 
-pub digits_found : (bytes : List ℕ) (r : Option ℕ) → are_digits bytes ≡ true → SomeIff r ((0 < length bytes) × (digits_value 10 bytes < 2 ^ 64)) (digits_value 10 bytes)
-    → (r ≡ digits_of bytes) × IfSome r (λ n. n < 10 ^ 18)
-digits_found bytes (Some n) h s =
-    let small = digits_small bytes h in
-    (ap (λ k. Some k) s.1 ∙ sym (ap (λ b. if b then Some (digits_value 10 bytes) else None) h), (let e = s.1 in omega (arith, e, small)))
-digits_found bytes None h s =
-    let parts = are_digits-parts bytes h in let small = digits_small bytes h in absurd (s (parts.0, omega (arith, small)))
+pub digits_found : (bytes : List ℕ) (n : ℕ) → are_digits bytes ≡ true → n ≡ digits_value 10 bytes → Some n ≡ digits_of bytes
+digits_found bytes n h is = ap (λ k. Some k) is ∙ sym (ap (λ b. if b then Some (digits_value 10 bytes) else None) h)

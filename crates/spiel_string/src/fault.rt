@@ -1,3 +1,4 @@
+//! What is wrong with a game string, and what each fault says.
 ghost use Rattle.std.specs.Prelude.{Some};
 ghost use Rattle.spiel_string.specs.Faults.{fault_text};
 

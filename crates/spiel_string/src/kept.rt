@@ -1,3 +1,4 @@
+//! What the reader of a game string keeps of what it has read.
 ghost use Rattle.std.specs.Prelude.{◌≡◌, IfOk, OnOk, option_map};
 ghost use Rattle.spiel_string.specs.Game.{inner};
 ghost use Rattle.spiel_string.specs.View.{view, value_view};

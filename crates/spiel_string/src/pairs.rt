@@ -1,3 +1,4 @@
+//! Pairs in byte order of their keys, and one more put among them.
 ghost use Rattle.std.specs.Prelude.{◌≡◌, ◌≤◌, OnOk, length, position};
 ghost use Rattle.std.specs.List.{position_or_len};
 ghost use Rattle.spiel_string.specs.Insertion.{insert_pair};

@@ -1,3 +1,4 @@
+//! Reading a game string byte by byte, or its first fault.
 ghost use Rattle.std.specs.Prelude.{◌≡◌, ◌<◌, ◌≤◌, ◌+◌, length, IfOk, IfErr, MatchBool, MatchResult, Ok};
 ghost use Rattle.spiel_string.specs.Answer.{reading, IsAnswer, IsComputed};
 ghost use Rattle.spiel_string.specs.Game.{Game};

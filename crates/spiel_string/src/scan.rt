@@ -1,3 +1,4 @@
+//! The classes of the bytes of a game string, and the modes of its reader.
 ghost use Rattle.std.specs.Prelude.{◌≡◌, ◌<◌, ◌^◌, ◌+◌};
 ghost use Rattle.spiel_string.specs.Scan.{class};
 

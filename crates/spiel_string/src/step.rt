@@ -1,3 +1,4 @@
+//! The grammar of game strings as a machine: the mode and the depth after one more byte.
 ghost use Rattle.std.specs.Prelude.{◌≡◌, ◌<◌, ◌≤◌, ◌^◌, ◌+◌, IfSome};
 ghost use Rattle.spiel_string.specs.Modes.{next_of, may_end, after_close};
 

@@ -1,3 +1,4 @@
+//! Where the word that is being read begins, and where the first repeated key stands.
 ghost use Rattle.std.specs.Prelude.{◌≡◌};
 ghost use Rattle.std.specs.List.{list_any};
 ghost use Rattle.std.specs.Str.{bytes_eq};

@@ -1,3 +1,4 @@
+//! A game string's value: a name, with parameters and their values.
 use spiel_frac::{List, Text};
 
 /// A game as a string names it: the game's name, and the parameters that are given. What

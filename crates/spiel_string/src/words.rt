@@ -1,23 +1,13 @@
-ghost use Rattle.std.specs.Prelude.{◌≡◌, ◌<◌, ◌^◌, length, true, IfSome};
-ghost use Rattle.std.specs.List.{list_all};
-ghost use Rattle.std.specs.Char.{is_ascii_digit};
-ghost use Rattle.std.specs.Str.Parse.{digits_value};
-ghost use Rattle.std.specs.Option.{SomeIff};
+//! Whether a word of a game string is a whole number, a flag or a word.
+ghost use Rattle.std.specs.Prelude.{◌≡◌, ◌<◌, ◌^◌, IfSome};
 ghost use Rattle.spiel_string.specs.Values.{are_digits, is_true, is_false, digits_of, whole_of, word_value};
 ghost use Rattle.spiel_string.specs.View.{value_view};
 
 use crate::value::ParamValue;
-use spiel_frac::Text;
-use std::str;
+use spiel_frac::{Text, all_digits, short_value};
 
 /// The most digits of a whole number.
 const MOST_DIGITS: usize = 18;
-
-fn all_digits(bytes: &[u8]) -> bool
-    ensures { result ≡ list_all is_ascii_digit bytes.now }
-{
-    bytes.iter().all(|byte| byte.is_ascii_digit())
-}
 
 // Whether these are 1 to 18 digits.
 fn are_digits(bytes: &[u8]) -> bool
@@ -32,15 +22,6 @@ fn are_digits(bytes: &[u8]) -> bool
     all_digits(bytes)
 }
 
-// The number of digits, if it is below 2^64.
-fn parsed(bytes: &[u8]) -> Option<u64>
-    requires { list_all is_ascii_digit bytes.now ≡ true }
-    ensures { SomeIff result ((0 < length bytes.now) × (digits_value 10 bytes.now < 2 ^ 64)) (digits_value 10 bytes.now) }
-{
-    let text = str::from_utf8(bytes).unwrap();
-    text.parse::<u64>().ok()
-}
-
 // The number of 1 to 18 digits.
 fn digits(bytes: &[u8]) -> Option<u64>
     ensures value { result ≡ digits_of bytes.now }
@@ -49,7 +30,7 @@ fn digits(bytes: &[u8]) -> Option<u64>
     if !are_digits(bytes) {
         return None;
     }
-    parsed(bytes)
+    Some(short_value(bytes))
 }
 
 // The whole number that a word reads as.

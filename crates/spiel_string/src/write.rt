@@ -1,3 +1,4 @@
+//! Writing the canonical text of a game string's value.
 ghost use Rattle.std.specs.Prelude.{◌≡◌, ◌++◌, ◌∷◌, [], IfOk, OnOk, OnErr, ◌≤◌, length};
 ghost use Rattle.std.specs.Fmt.{signed_decimal};
 ghost use Rattle.spiel_string.specs.Canonical.{value_text, game_text, joined, comma_at};

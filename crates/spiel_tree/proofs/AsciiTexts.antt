@@ -10,9 +10,9 @@ use Rattle.spiel_api.specs.Laws.{IsPrintable}
 use Rattle.spiel_api.specs.Place.{HasInfo, IsAmongPlayers}
 use Rattle.spiel_tree.specs.Flat.{moves, no_row, row_at}
 use Rattle.spiel_tree.specs.Rows.{Row, info_at, rows}
-use Rattle.spiel_tree.specs.States.{decides, first_row, state_at, states_below}
+use Rattle.spiel_tree.specs.States.{first_row, state_at, states_below}
 use Rattle.spiel_tree.specs.Trees.{IsGameTree, Whole}
-use Rattle.spiel_tree.proofs.FirstRows.{first_row_there}
+use Rattle.spiel_tree.proofs.FirstRows.{first_decides, first_row_there}
 use Rattle.spiel_tree.proofs.OfGame.{IsOfPlay, rows_of_plays}
 
 nothing_ascii : IsAscii []
@@ -39,16 +39,6 @@ row_ascii tree game k l =
     let of = All-get_or (IsOfPlay r) (rows r) k no_row within (rows_of_plays r) in
     subst (λ (row : Row). IsAscii row.here.info) (sym of.is)
     (seen_ascii r.players (r.place of.history) (r.info of.history) (game.lawful.numbers.mover of.history of.play) (λ p has low. game.lawful.texts.infos of.history p of.play has low))) l
-
--- the first row of an information state shows its text
-first_decides : (p : ℕ) (text : List ℕ) (rows : List Row) → first_row p text rows < length rows → decides p text (row_at rows (first_row p text rows)) ≡ true
-first_decides p text [] l = absurd (omega arith)
-first_decides p text (row ∷ rows) l = by (decides p text row) refl (first_decides p text rows) l
-  where
-    by : (b : Bool) → decides p text row ≡ b → (first_row p text rows < length rows → decides p text (row_at rows (first_row p text rows)) ≡ true)
-        → cond b 0 (suc (first_row p text rows)) < suc (length rows) → decides p text (row_at (row ∷ rows) (cond b 0 (suc (first_row p text rows)))) ≡ true
-    by true e later l = e
-    by false e later l = later (omega arith)
 
 shown : (b c : Bool) → cond b c false ≡ true → c ≡ true
 shown true c e = e

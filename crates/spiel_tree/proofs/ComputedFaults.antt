@@ -39,11 +39,11 @@ first_fault-is rows (Some fault) first =
     first_fault_from-at rows 0 (length rows) first.at fault (omega arith) (omega (arith, first.within)) first.here (λ j l m. first.before j m)
 
 -- ---- why a game has no tree
-pub tree_fault-many : (r : Rules) (limit : ℕ) → limit < length (rows r) → tree_fault r limit ≡ Some told.TooMany
+pub tree_fault-many : (r : Rules) (limit : ℕ) → limit < length (rows r) → tree_fault r limit ≡ Some (told.TooMany limit)
 unfolding tree_fault
 tree_fault-many r limit many = by (nat_lt limit (length (rows r))) refl
   where
-    by : (b : Bool) → nat_lt limit (length (rows r)) ≡ b → (if b then Some told.TooMany else option_map (fault_told (rows r)) (first_fault (rows r))) ≡ Some told.TooMany
+    by : (b : Bool) → nat_lt limit (length (rows r)) ≡ b → (if b then Some (told.TooMany limit) else option_map (fault_told (rows r)) (first_fault (rows r))) ≡ Some (told.TooMany limit)
     by true e = refl
     by false e = absurd (omega (arith, many, ltb-false _ _ e))
 
@@ -53,13 +53,13 @@ pub tree_fault-found : (r : Rules) (limit : ℕ) (all : List Row) (fault : Optio
 unfolding tree_fault
 tree_fault-found r limit all fault same few first = by (nat_lt limit (length (rows r))) refl
   where
-    by : (b : Bool) → nat_lt limit (length (rows r)) ≡ b → (if b then Some told.TooMany else option_map (fault_told (rows r)) (first_fault (rows r))) ≡ option_map (fault_told all) fault
+    by : (b : Bool) → nat_lt limit (length (rows r)) ≡ b → (if b then Some (told.TooMany limit) else option_map (fault_told (rows r)) (first_fault (rows r))) ≡ option_map (fault_told all) fault
     by true e = absurd (omega (arith, few, ltb-true _ _ e))
     by false e = ap (λ (xs : List Row). option_map (fault_told xs) (first_fault xs)) (sym same) ∙ ap (option_map (fault_told all)) (first_fault-is all fault first)
 
 -- it is the one that was told, unless memory ran out
 computed_is : (computed : Option TreeFault) (fault : TreeFault) → computed ≡ Some fault → IsComputed computed fault
-computed_is computed told.TooMany e = e
+computed_is computed (told.TooMany limit) e = e
 computed_is computed (told.Simultaneous history) e = e
 computed_is computed (told.Recall player first second) e = e
 computed_is computed (told.Actions player first second) e = e

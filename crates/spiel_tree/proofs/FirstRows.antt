@@ -6,7 +6,7 @@ use Rattle.std.proofs.lemmas.Slice.Eq.{bytes_eq-Decides}
 use Rattle.std.proofs.lemmas.List.Elements.{All-nil, All-cons, All-head, All-tail, All-get_or, All-weaker}
 use Rattle.spiel_tree.specs.Rows.{Row}
 use Rattle.spiel_tree.specs.FirstSeen.{first_seen, text_at, with_text}
-use Rattle.spiel_tree.specs.Flat.{infos, moves}
+use Rattle.spiel_tree.specs.Flat.{infos, moves, row_at}
 use Rattle.spiel_tree.specs.States.{InfoState, decides, first_row, state_at, states_below, texts_seen}
 use Rattle.spiel_tree.proofs.StateNumbers.{state_there}
 use Rattle.spiel_tree.proofs.StateCounts.{state_split}
@@ -56,3 +56,13 @@ first_row_there players rows s l =
     subst (λ (state : InfoState). first_row state.player state.text rows < length rows) (sym is)
     (All-get_or (λ t. first_row p t rows < length rows) (texts_seen p rows) split.number [] split.within
     (all_first_seen (λ t. first_row p t rows < length rows) [] (infos p rows) (All-nil (λ t. first_row p t rows < length rows)) (infos_there p rows)))
+
+-- the first row of an information state is one of its rows
+pub first_decides : (p : ℕ) (text : List ℕ) (rows : List Row) → first_row p text rows < length rows → decides p text (row_at rows (first_row p text rows)) ≡ true
+first_decides p text [] l = absurd (omega arith)
+first_decides p text (row ∷ rows) l = by (decides p text row) refl (first_decides p text rows) l
+  where
+    by : (b : Bool) → decides p text row ≡ b → (first_row p text rows < length rows → decides p text (row_at rows (first_row p text rows)) ≡ true)
+        → cond b 0 (suc (first_row p text rows)) < suc (length rows) → decides p text (row_at (row ∷ rows) (cond b 0 (suc (first_row p text rows)))) ≡ true
+    by true e later l = e
+    by false e later l = later (omega arith)

@@ -1,5 +1,5 @@
 -- Whoever moves at an information state has a number.
-use Rattle.std.proofs.Common.{◌≡◌, ℕ, suc, ◌<◌, Bool, true, false, cond, List, [], ◌∷◌, length, refl, sym, subst, ◌∙◌, arith}
+use Rattle.std.proofs.Common.{◌≡◌, ℕ, ◌<◌, true, false, cond, List, length, sym, subst, ◌∙◌, arith}
 use Rattle.std.specs.Prelude.{slice_index, slice_index_or}
 use Rattle.std.specs.Str.{bytes_eq}
 use Rattle.std.proofs.lemmas.Bool.{true≢false}
@@ -9,22 +9,12 @@ use Rattle.spiel_api.specs.declared.place.Place.TheVariants.{End, Chance, Move, 
 use Rattle.spiel_api.specs.Place.{IsOpen}
 use Rattle.spiel_tree.specs.Rows.{Row, rows}
 use Rattle.spiel_tree.specs.Flat.{moves, no_row, row_at}
-use Rattle.spiel_tree.specs.States.{decides, first_row, numbers_of, state_at, states_below}
+use Rattle.spiel_tree.specs.States.{first_row, numbers_of, state_at, states_below}
 use Rattle.spiel_tree.specs.Trees.{Whole, IsGameTree, IsTree}
 use Rattle.spiel_tree.specs.declared.flat.Rows.{Rows}
 use Rattle.spiel_tree.proofs.OfGame.{IsOfPlay, rows_of_plays}
-use Rattle.spiel_tree.proofs.FirstRows.{first_row_there}
+use Rattle.spiel_tree.proofs.FirstRows.{first_decides, first_row_there}
 use Rattle.spiel_tree.proofs.Reading.{same_read}
-
--- the first row of an information state is one of its rows
-first_decides : (p : ℕ) (text : List ℕ) (rows : List Row) → first_row p text rows < length rows → decides p text (row_at rows (first_row p text rows)) ≡ true
-first_decides p text [] l = absurd (omega arith)
-first_decides p text (row ∷ rows) l = by (decides p text row) refl (first_decides p text rows) l
-  where
-    by : (b : Bool) → decides p text row ≡ b → (first_row p text rows < length rows → decides p text (row_at rows (first_row p text rows)) ≡ true)
-        → cond b 0 (suc (first_row p text rows)) < suc (length rows) → decides p text (row_at (row ∷ rows) (cond b 0 (suc (first_row p text rows)))) ≡ true
-    by true e later l = e
-    by false e later l = later (omega arith)
 
 open_by : (p : ℕ) (text : List ℕ) (place : Place) (info : List ℕ) → cond (moves p place) (bytes_eq text info) false ≡ true → IsOpen place
 open_by p text End info e = absurd (true≢false (sym e))

@@ -56,13 +56,13 @@ pub record IsTold (rules : Rules) (limit : ℕ) (fault : TreeFault) : Type 0 whe
 
 -- why a game has no tree
 abbrev pub IsFault : Rules → ℕ → TreeFault → Type 0
-IsFault rules limit told.TooMany = limit < length (rows rules)
+IsFault rules limit (told.TooMany most) = (most ≡ limit) × (limit < length (rows rules))
 IsFault rules limit told.NoMemory = ⊤
 IsFault rules limit fault = IsTold rules limit fault
 
 -- why a game has no tree, as a function that computes: too many histories come before all else
 unfoldable pub tree_fault : Rules → ℕ → Option TreeFault
-tree_fault rules limit = if nat_lt limit (length (rows rules)) then Some told.TooMany else option_map (fault_told (rows rules)) (first_fault (rows rules))
+tree_fault rules limit = if nat_lt limit (length (rows rules)) then Some (told.TooMany limit) else option_map (fault_told (rows rules)) (first_fault (rows rules))
 
 -- the fault is the one that was computed, unless memory ran out
 abbrev pub IsComputed : Option TreeFault → TreeFault → Type 0

@@ -1,3 +1,4 @@
+//! Building the tree of a game, or why it has none.
 ghost use Rattle.std.specs.Prelude.{◌≡◌, ◌<◌, ◌≤◌, ◌^◌, length, IfErr, IfOk, None};
 ghost use Rattle.spiel_tree.specs.Faults.{IsFaultless, NamesRows};
 ghost use Rattle.spiel_tree.specs.Flat.{IsBuilt, StepsWithin, rows_of};
@@ -13,8 +14,8 @@ use spiel_api::Game;
 use spiel_frac::NoMemory;
 use std::alloc::Global;
 
-/// A fault of rows, told by histories.
-fn told(alloc: Global, rows: &Rows, fault: Fault) -> Result<TreeFault, NoMemory>
+/// Tells a fault of rows by histories.
+fn tell_fault(alloc: Global, rows: &Rows, fault: Fault) -> Result<TreeFault, NoMemory>
     requires built { IsBuilt rows.now }
     requires steps { StepsWithin (rows_of rows.now) }
     requires named { NamesRows (length (rows_of rows.now)) fault }
@@ -69,7 +70,7 @@ pub fn build<G: Game>(alloc: Global, game: &G, limit: u32) -> Result<Tree, TreeF
 {
     let rows = match walk_all(alloc, game, limit) {
         Ok(rows) => rows,
-        Err(Stop::TooMany) => return Err(TreeFault::TooMany),
+        Err(Stop::TooMany) => return Err(TreeFault::TooMany { limit }),
         Err(Stop::Long) => unreachable!(),
         Err(Stop::NoMemory) => return Err(TreeFault::NoMemory),
     };
@@ -81,6 +82,6 @@ pub fn build<G: Game>(alloc: Global, game: &G, limit: u32) -> Result<Tree, TreeF
     };
     match first_fault(&rows, &starts, &firsts) {
         None => Ok(Tree::new(game.unit(), game.players(), rows, starts, firsts)),
-        Some(fault) => Err(told(alloc, &rows, fault).unwrap_or(TreeFault::NoMemory)),
+        Some(fault) => Err(tell_fault(alloc, &rows, fault).unwrap_or(TreeFault::NoMemory)),
     }
 }

@@ -1,4 +1,4 @@
-//! Histories that are counted, with nothing kept of them.
+//! How many histories a game has, counted with nothing kept of them.
 ghost use Rattle.std.specs.Prelude.{◌≡◌, ◌<◌, ◌≤◌, ◌+◌, length, IfOk, IfErr, OnOk, OnErr};
 ghost use Rattle.spiel_api.specs.States.{StandsFor};
 ghost use Rattle.spiel_tree.specs.Rows.{rows, rows_from};

@@ -1,3 +1,4 @@
+//! What is wrong with the rows of a game, and the first row that shows it.
 ghost use Rattle.std.specs.Prelude.{◌≡◌, ◌<◌, ◌^◌, length};
 ghost use Rattle.spiel_tree.specs.Flat.{IsBuilt, StepsWithin, row_at, rows_of};
 ghost use Rattle.spiel_tree.specs.States.{AreFirsts, AreStarts};

@@ -1,3 +1,4 @@
+//! The rows of a tree, one for each history in preorder, kept in columns.
 ghost use Rattle.std.specs.Prelude.{◌≡◌, ◌<◌, ◌≤◌, ◌^◌, [], ◌∷◌, length, replicate, OnOk, IfOk, IsTrue, IsSome, ◌↔◌};
 ghost use Rattle.spiel_tree.specs.Flat.{AddsRows, IsBefore, IsBuilt, IsMoverBelow, number_with, rows_of, shown, texts_with, way_to};
 ghost use Rattle.spiel_tree.specs.Shown.{node_shown};
@@ -27,7 +28,7 @@ pub(crate) struct Rows {
     pub pays: Packed<i64>,
     pub texts: Vec<Texts>,
     /// How many bytes of texts were made, those that were there already among them.
-    pub made: u64,
+    pub text_bytes: u64,
 }
 
 /// No texts yet, for each player.
@@ -78,7 +79,7 @@ impl Rows {
             weights: Packed::new(alloc),
             pays: Packed::new(alloc),
             texts,
-            made: 0,
+            text_bytes: 0,
         })
     }
 
@@ -95,7 +96,7 @@ impl Rows {
         ensures { IsTrue result → IsSome most }
     {
         match most {
-            Some(most) => self.made > most,
+            Some(most) => self.text_bytes > most,
             None => false,
         }
     }
@@ -125,7 +126,9 @@ impl Rows {
     {
         let place = node.place;
         let text = number_text(alloc, &mut self.texts, place, &node.info)?;
-        self.made = self.made.saturating_add(node.info.bytes().len() as u64);
+        self.text_bytes = self
+            .text_bytes
+            .saturating_add(node.info.bytes().len() as u64);
         self.numbers.push(node.numbers.items())?;
         self.weights.push(node.weights.items())?;
         self.pays.push(node.pays.items())?;

@@ -1,3 +1,4 @@
+//! The numbers that lead to a row.
 ghost use Rattle.std.specs.Prelude.{◌≡◌, ◌<◌, ◌^◌, ◌++◌, length, slice_index_or, IfOk, OnOk};
 ghost use Rattle.spiel_tree.specs.Flat.{IsBuilt, row_at, rows_of, StepsWithin};
 ghost use Rattle.spiel_tree.specs.Rows.{history_of};

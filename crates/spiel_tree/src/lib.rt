@@ -1,6 +1,7 @@
-//! The tree of all histories of a game.
+//! The tree of all histories of a game, with its information states, or why a game has none.
 #![tactic(auto)]
 
+mod bracketed;
 mod building;
 mod counting;
 mod faults;

@@ -1,3 +1,4 @@
+//! What stands at one history of a game: who is next, the numbers, the text, the weights or the returns.
 ghost use Rattle.std.specs.Prelude.{◌≡◌, ◌<◌, [], length, slice_index, OnOk, IfOk};
 ghost use Rattle.spiel_api.specs.Rules.{next_of};
 ghost use Rattle.spiel_api.specs.declared.place.Place.TheVariants.{Chance, End};

@@ -1,3 +1,4 @@
+//! Whether a player made the same own choices on the ways to two rows.
 ghost use Rattle.std.specs.Prelude.{◌≡◌, ◌<◌, length};
 ghost use Rattle.spiel_tree.specs.Flat.{IsBuilt, StepsWithin, moves, row_at, rows_of};
 ghost use Rattle.spiel_tree.specs.Faults.{own_past, same_past};

@@ -1,3 +1,4 @@
+//! Information states: their numbers, their players and texts, and the first row of each.
 ghost use Rattle.std.specs.Prelude.{◌≡◌, ◌<◌, ◌≤◌, ◌^◌, length, Contains, IfOk, IfSome, IfNone};
 ghost use Rattle.spiel_tree.specs.Flat.{IsBuilt, row_at, rows_of};
 ghost use Rattle.spiel_tree.specs.States.{AreFirsts, AreStarts, noted, state_at, state_of, states_below};

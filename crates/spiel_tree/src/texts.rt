@@ -1,3 +1,4 @@
+//! Texts, numbered in the order in which they are first seen.
 ghost use Rattle.std.specs.Prelude.{◌≡◌, ◌<◌, [], length, Contains, OnOk, OnErr, IfOk, IfSome, IfNone};
 ghost use Rattle.spiel_tree.specs.FirstSeen.{with_text, place_of_text, text_at};
 

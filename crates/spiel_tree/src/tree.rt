@@ -1,3 +1,4 @@
+//! The tree of a game and what is read of it, and why a game has none, with the text of each fault.
 ghost use Rattle.std.specs.Prelude.{◌≡◌, ◌<◌, ◌≤◌, ◌^◌, length, pos, slice_index, slice_index_or, Contains, IfNone, IfSome, Some};
 ghost use Rattle.spiel_api.specs.declared.place.Place.TheVariants.{Chance, End};
 ghost use Rattle.spiel_tree.specs.Flat.{IsBefore, row_at, rows_of, way_to};
@@ -6,6 +7,7 @@ ghost use Rattle.spiel_tree.specs.States.{numbers_of, state_at, state_of, states
 ghost use Rattle.spiel_tree.specs.Trees.{IsGameTree, IsParent, IsTree, last_index};
 ghost use Rattle.spiel_tree.specs.FaultTexts.{fault_text};
 
+use crate::bracketed::{Bracketed, Pair};
 use crate::flat::{FlatRow, Rows};
 use crate::states::{find, player_of, state_of, text_of};
 use spiel_api::Place;
@@ -41,8 +43,10 @@ impl Model for Tree {
 /// Why a game has no tree.
 #[derive(Debug, Drop)]
 pub enum TreeFault {
-    /// There are more histories than the limit.
-    TooMany,
+    /// There are more histories than this limit.
+    TooMany {
+        limit: u32,
+    },
     /// Players choose at once after this history. No history before it shows a fault.
     Simultaneous {
         history: List<u32>,
@@ -72,21 +76,34 @@ impl fmt::Display for TreeFault {
 
     fn fmt<W: fmt::Write>(&self, f: &mut fmt::Formatter<W>) -> fmt::Result {
         match self {
-            TreeFault::TooMany => write!(f, "too many histories"),
-            TreeFault::Simultaneous { history: _ } => write!(f, "players choose at once"),
+            TreeFault::TooMany { limit } => write!(f, "more than {limit} histories"),
+            TreeFault::Simultaneous { history } => {
+                write!(f, "simultaneous node at {}", Bracketed(history.items()))
+            }
             TreeFault::Recall {
                 player,
-                first: _,
-                second: _,
-            } => write!(f, "player {player} forgets an own choice"),
+                first,
+                second,
+            } => {
+                let pair = Pair {
+                    player: *player,
+                    first: first.items(),
+                    second: second.items(),
+                };
+                write!(f, "imperfect recall of {pair}")
+            }
             TreeFault::Actions {
                 player,
-                first: _,
-                second: _,
-            } => write!(
-                f,
-                "player {player} has different actions at one information state"
-            ),
+                first,
+                second,
+            } => {
+                let pair = Pair {
+                    player: *player,
+                    first: first.items(),
+                    second: second.items(),
+                };
+                write!(f, "actions differ for {pair}")
+            }
             TreeFault::NoMemory => write!(f, "no memory"),
         }
     }
@@ -238,7 +255,7 @@ impl Tree {
     }
 
     /// One of the numbers at a history.
-    pub fn row_action(&self, row: u32, index: u32) -> u32
+    fn row_action(&self, row: u32, index: u32) -> u32
         requires within { row < length self.now.rows }
         requires index { index < length (row_at self.now.rows row).here.numbers }
         ensures { result ≡ slice_index (row_at self.now.rows row).here.numbers index }

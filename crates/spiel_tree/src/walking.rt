@@ -1,3 +1,4 @@
+//! The walk over all histories of a game, with one state that goes to each of them in turn.
 ghost use Rattle.std.specs.Prelude.{◌≡◌, ◌∷◌, [], length, IfOk, OnOk};
 ghost use Rattle.spiel_api.specs.Rules.{next_of};
 ghost use Rattle.spiel_api.specs.States.{StandsFor};
@@ -14,7 +15,7 @@ use spiel_frac::NoMemory;
 use std::alloc::Global;
 
 /// So many bytes of texts are made before the histories are counted.
-const LONG: u64 = 1 << 26;
+const BYTES_BEFORE_COUNTING: u64 = 1 << 25;
 
 /// Why a walk over all histories ended early.
 #[derive(Clone, Copy)]
@@ -133,7 +134,7 @@ pub(crate) fn walk_all<G: Game>(alloc: Global, game: &G, limit: u32) -> Result<R
     ensures all { IsAll result (rows (G.rules game.now)) limit None }
     ensures players { IfOk result (λ out. length out.texts.items ≡ (G.rules game.now).players) }
 {
-    match walk(alloc, game, limit, Some(LONG)) {
+    match walk(alloc, game, limit, Some(BYTES_BEFORE_COUNTING)) {
         Err(Stop::Long) => {
             count_all(alloc, game, limit)?;
             walk(alloc, game, limit, None)

@@ -1,3 +1,4 @@
+pub mod FaultTexts
 pub mod Found
 pub mod Line
 pub mod Rules

@@ -1,3 +1,4 @@
+//! What the program can be asked for: a command with its words.
 use spiel_frac::Text;
 
 /// What is asked of the program, with the words as they were given.

@@ -1,26 +1,40 @@
+//! Why words are no command, and what each fault says.
 ghost use Rattle.spiel_words.specs.declared.fault.WordsFault.TheVariants.{NoMemory as OutOfMemory};
 ghost use Rattle.spiel_words.specs.declared.fault.WordsFault.TheVariants.{Usage as NoCommand};
 ghost use Rattle.clap.specs.Words.{kind_of};
 ghost use Rattle.clap.specs.declared.error.kind.ErrorKind.TheVariants.{OutOfMemory as ClapOutOfMemory};
-ghost use Rattle.std.specs.Prelude.{◌≡◌, ◌≢◌};
+ghost use Rattle.std.specs.Prelude.{◌≡◌, ◌≢◌, Some};
+ghost use Rattle.spiel_words.specs.FaultTexts.{fault_text};
 
 use clap::error::ErrorKind;
 use spiel_frac::NoMemory;
 use std::alloc::AllocError;
-use thiserror::Error;
+use std::error::Error;
+use std::fmt;
 
 /// Why words are not read.
-#[derive(Clone, Copy, Debug, PartialEq, Eq, Error)]
+#[derive(Clone, Copy, Debug, PartialEq, Eq)]
 pub enum WordsFault {
     /// They are no command: there is no verb or an unknown one, the number of positional words is
     /// wrong, a flag or an option is unknown or given twice, an option lacks its value or has an
     /// empty one, or a flag has a value.
-    #[error("the words are no command")]
     Usage,
     /// Memory ran out.
-    #[error("no memory")]
     NoMemory,
 }
+
+impl fmt::Display for WordsFault {
+    ghost output = { λ fault. Some (fault_text fault) };
+
+    fn fmt<W: fmt::Write>(&self, f: &mut fmt::Formatter<W>) -> fmt::Result {
+        match self {
+            WordsFault::Usage => write!(f, "usage: spiel VERB ARGUMENTS"),
+            WordsFault::NoMemory => write!(f, "no memory"),
+        }
+    }
+}
+
+impl Error for WordsFault {}
 
 impl From<AllocError> for WordsFault {
     ghost from_gives = { λ _ fault. fault ≡ OutOfMemory };

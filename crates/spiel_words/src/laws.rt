@@ -1,3 +1,4 @@
+//! A law of command lines, as the contract of a function that does nothing.
 ghost use Rattle.std.specs.Prelude.{◌≡◌, List, Some, true};
 ghost use Rattle.spiel_words.specs.Line.{Line, Shape, Text, is_filled, is_sound, read_line};
 

@@ -1,3 +1,4 @@
+//! Reading the words of a line of one shape, and what it says of a name.
 ghost use Rattle.std.specs.Prelude.{◌≡◌, Bool, None, Some, IfOk, IsErrOf, map, string_bytes, true};
 ghost use Rattle.clap.specs.Words.{first_value, found_of, one_text};
 ghost use Rattle.spiel_words.specs.Found.{Says, flag_text, shape_of};

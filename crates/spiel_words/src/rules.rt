@@ -1,3 +1,4 @@
+//! The `clap` command that reads the words of a shape.
 ghost use Rattle.std.specs.Prelude.{◌≡◌, ◌<◌, ℕ, length, IfOk, map, false};
 ghost use Rattle.clap.specs.Words.{app_of, rule_of};
 ghost use Rattle.spiel_words.specs.Found.{shape_of, texts};

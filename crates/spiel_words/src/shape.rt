@@ -1,3 +1,4 @@
+//! Shapes of command lines: which words, flags and options may stand behind a verb.
 /// What may stand behind a verb: a positional word for each place, flags `--name`, and options
 /// `--name VALUE`. All names differ.
 pub struct Shape {

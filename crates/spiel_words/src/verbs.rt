@@ -1,3 +1,4 @@
+//! Reading the words of the command line: the verb, and the command that they are.
 ghost use Rattle.std.specs.Prelude.{◌≡◌, None, Some, IfOk, IsErrOf, codes, false, map, string_bytes, true};
 ghost use Rattle.spiel_words.specs.Found.{shape_of};
 ghost use Rattle.spiel_words.specs.Line.{is_among, is_sound};

@@ -4,7 +4,7 @@ use Rattle.spiel_string.specs.View.{view}
 use Rattle.spiel_load.specs.Named.{named_game}
 use Rattle.spiel_cli.specs.Case.{case_of, game_case}
 use Rattle.spiel_cli.specs.Deciding.{seeing}
-use Rattle.spiel_cli.specs.Refusal.{of_load, of_string}
+use Rattle.spiel_cli.specs.declared.refusal.Refusal.TheVariants.{GameString, Loading}
 use Rattle.spiel_cli.proofs.Games.{game_then}
 use Rattle.spiel_cli.proofs.Judgements.{decide_gave, game_given}
 use Rattle.spiel_cli.proofs.case.read_case.Goals as goal
@@ -18,6 +18,6 @@ pub returns-clause-of_game : goal.returns-clause-of_game
 returns-clause-of_game g c =
     let text = view c.in_ok-text.text in
     game_given c.args.game.now text _ c.game_policy.result
-    (decide_gave of_string (reading c.args.game.now) None text c.in_ok-text.ensures.agrees)
-    (decide_gave of_load (named_game text) None _ c.in_ok-game.ensures.agrees)
+    (decide_gave GameString (reading c.args.game.now) None text c.in_ok-text.ensures.agrees)
+    (decide_gave Loading (named_game text) None _ c.in_ok-game.ensures.agrees)
     c.game_policy.ensures.text c.game_policy.ensures.judgeable c.game_policy.ensures.tree

@@ -1,11 +1,11 @@
-use Rattle.spiel_cli.specs.Report.{reported}
+use Rattle.spiel_cli.specs.Reports.{case_report}
 use Rattle.spiel_cli.proofs.Judgements.{report_given}
 use Rattle.spiel_cli.proofs.Cases.{case_then, reports_ask_nothing}
 use Rattle.spiel_cli.proofs.judge.judge.Goals as goal
 
 pub returns-clause-follows : goal.returns-clause-follows
 returns-clause-follows g c =
-    case_then c.args.game.now c.args.policy.now (reported c.args.brief) (reports_ask_nothing c.args.brief) _ _ c.in_ok-case.case c.tree_report.result c.in_ok-case.ensures.follows c.tree_report.ensures.agrees
+    case_then c.args.game.now c.args.policy.now (case_report c.args.brief) (reports_ask_nothing c.args.brief) _ _ c.in_ok-case.case c.tree_report.result c.in_ok-case.ensures.follows c.tree_report.ensures.agrees
 
 pub returns-clause-report : goal.returns-clause-report
 returns-clause-report g c =

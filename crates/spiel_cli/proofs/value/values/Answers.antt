@@ -1,7 +1,7 @@
-use Rattle.spiel_cli.specs.Value.{valued}
+use Rattle.spiel_cli.specs.Value.{case_values}
 use Rattle.spiel_cli.proofs.Cases.{case_then, values_ask_nothing}
 use Rattle.spiel_cli.proofs.value.values.Goals as goal
 
 pub returns-clause-follows : goal.returns-clause-follows
 returns-clause-follows g c =
-    case_then c.args.game.now c.args.policy.now valued values_ask_nothing _ _ c.in_ok-case.case c.tree_values.result c.in_ok-case.ensures.follows c.tree_values.ensures
+    case_then c.args.game.now c.args.policy.now case_values values_ask_nothing _ _ c.in_ok-case.case c.tree_values.result c.in_ok-case.ensures.follows c.tree_values.ensures

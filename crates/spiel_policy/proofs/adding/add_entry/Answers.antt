@@ -1,7 +1,7 @@
 use Rattle.std.proofs.Common.{◌<◌, ◌∙◌, ap, sym, subst, arith, length, ℕ, Option}
 use Rattle.std.specs.Prelude.{IfSome, count_by, is_some}
 use Rattle.spiel_tree.specs.States.{numbers_of, states_below}
-use Rattle.spiel_policy.specs.Reading.{Given}
+use Rattle.spiel_policy.specs.Reading.{Partial}
 use Rattle.spiel_policy.proofs.GivenWeights.{counted_free}
 use Rattle.spiel_policy.proofs.Steps.{for_more, weights_long}
 use Rattle.spiel_policy.proofs.adding.add_entry.Goals as goal
@@ -23,5 +23,5 @@ returns-clause-counted c =
     let state = c.in_ok-state.state in
     let there : state < length (states_below tree.players tree.rows) =
     subst (λ (o : Option ℕ). IfSome o (λ s. s < length (states_below tree.players tree.rows))) c.in_ok-state.ensures.ok_part c.state_named.ensures.within in
-    ap (λ (given : Given). count_by is_some given) c.in_ok-add.ensures
+    ap (λ (given : Partial). count_by is_some given) c.in_ok-add.ensures
     ∙ counted_free c.args.given.now state c.items-2.result.now (omega (arith, there, c.requires.for_tree.states)) (sym c.has.ensures ∙ c.if-has.false)

@@ -1,7 +1,7 @@
 use Rattle.std.proofs.Common.{◌≡◌, drop}
 use Rattle.std.specs.Prelude.{count_by, is_some}
 use Rattle.serde_json.specs.View.{items_view}
-use Rattle.spiel_policy.specs.Given.{IsFor}
+use Rattle.spiel_policy.specs.Partial.{IsFor}
 use Rattle.spiel_policy.specs.Reading.{none_given, with_entries}
 use Rattle.spiel_policy.proofs.reading.take_entries.Given as goal
 

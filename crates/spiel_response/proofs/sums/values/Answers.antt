@@ -8,7 +8,7 @@ use Rattle.spiel_response.proofs.LeafSums.{size_below-le, size_below_more, value
 use Rattle.spiel_response.proofs.sums.values.Goals as goal
 
 pub loop-player-init : goal.loop-player-init
-loop-player-init c = record { values_are = c.new-values.ensures; size_is = search rules; small = omega arith; gathered = c.requires.gathered }
+loop-player-init c = record { values_are = c.new-values.ensures; size_is = search rules; small = omega arith }
 
 pub returns-in_default-clause-fault : goal.returns-in_default-clause-fault
 returns-in_default-clause-fault c =
@@ -21,12 +21,6 @@ returns-in_default-clause-fault c =
 pub player_sums-requires-clause-judgeable : goal.player_sums-requires-clause-judgeable
 player_sums-requires-clause-judgeable c = subst IsJudgeable c.weighed.view_is c.weighed.invariant
 
-pub gather-requires-clause-judgeable : goal.gather-requires-clause-judgeable
-gather-requires-clause-judgeable c = subst IsJudgeable c.weighed.view_is c.weighed.invariant
-
-pub gather-requires-clause-small : goal.gather-requires-clause-small
-gather-requires-clause-small c = omega (arith, c.loop-player.invariant.size_is, c.in-Some.ensures.some.size_is, c.in-Some.ensures.some.small)
-
 pub loop-player-preserved : goal.loop-player-preserved
 loop-player-preserved c =
     let j = c.args.weighed.now in
@@ -37,7 +31,6 @@ loop-player-preserved c =
           (to_z-of_z w128 c.in-Some.sums.value fits ∙ c.in-Some.ensures.some.value_is);
       size_is = size_below_more j p c.loop-player.size c.in-Some.sums.size c.loop-player.invariant.size_is c.in-Some.ensures.some.size_is;
       small = c.in-Some.ensures.some.small;
-      gathered = c.gather.ensures;
     }
 
 pub returns-clause-values : goal.returns-clause-values

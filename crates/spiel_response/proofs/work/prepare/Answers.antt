@@ -16,9 +16,9 @@ invariant_of-result-2 c =
     let j : Judged = record { tree = c.args.tree.now; profile = c.args.policy.now } in
     let fits : FitsSigned w128 c.in-Some.total = search rules in
     let same = c.new-weighed.ensures.judged in
-    let sums = c.values.new.gathered.sums.items in
-    let gathered : AreSlotSums j j.tree.players c.values.new.gathered.starts sums c.values.new.gathered.parents.items =
-    subst (λ (w : Judged). AreSlotSums w w.tree.players c.values.new.gathered.starts sums c.values.new.gathered.parents.items) same c.in_ok-values.ensures.gathered in
+    let sums = c.in_ok-gathered.gathered.sums.items in
+    let gathered : AreSlotSums j j.tree.players c.in_ok-gathered.gathered.starts sums c.in_ok-gathered.gathered.parents.items =
+    subst (λ (w : Judged). AreSlotSums w w.tree.players c.in_ok-gathered.gathered.starts sums c.in_ok-gathered.gathered.parents.items) same c.in_ok-gathered.ensures in
     let long : c.len.result ≡ length sums = search rules in
     let whole : FitsSigned w64 c.unit.result = search rules in
     let total : c.in-Some.total ≡ denominator_of j =

@@ -22,11 +22,11 @@ new-requires g c =
 pub first_fault-requires-clause-steps : goal.first_fault-requires-clause-steps
 first_fault-requires-clause-steps g c = game_steps (g.G.Game.rules c.args.game.now) c.in-Ok.rows c.in-Ok.ensures.all.0
 
-pub told-requires-clause-steps : goal.told-requires-clause-steps
-told-requires-clause-steps g c = game_steps (g.G.Game.rules c.args.game.now) c.in-Ok.rows c.in-Ok.ensures.all.0
+pub tell_fault-requires-clause-steps : goal.tell_fault-requires-clause-steps
+tell_fault-requires-clause-steps g c = game_steps (g.G.Game.rules c.args.game.now) c.in-Ok.rows c.in-Ok.ensures.all.0
 
-pub told-requires-clause-named : goal.told-requires-clause-named
-told-requires-clause-named g c = rows_named (rows_of c.in-Ok.rows) c.in-Some.fault c.in-Some.ensures
+pub tell_fault-requires-clause-named : goal.tell_fault-requires-clause-named
+tell_fault-requires-clause-named g c = rows_named (rows_of c.in-Ok.rows) c.in-Some.fault c.in-Some.ensures
 
 pub returns-in-Err-TooMany-clause-computed_err : goal.returns-in-Err-TooMany-clause-computed_err
 returns-in-Err-TooMany-clause-computed_err g c =
@@ -44,4 +44,4 @@ returns-in-Some-clause-computed_err g c =
     let t = c.in-Ok.rows in
     let computed : tree_fault r c.args.limit ≡ Some (fault_told (rows_of t) c.in-Some.fault) =
     tree_fault-found r c.args.limit (rows_of t) (Some c.in-Some.fault) c.in-Ok.ensures.all.0 c.in-Ok.ensures.all.2 c.in-Some.ensures in
-    subst (IsComputed (tree_fault r c.args.limit)) (sym c.unwrap_or.ensures) (computed_told (tree_fault r c.args.limit) (fault_told (rows_of t) c.in-Some.fault) c.told.result computed c.told.ensures)
+    subst (IsComputed (tree_fault r c.args.limit)) (sym c.unwrap_or.ensures) (computed_told (tree_fault r c.args.limit) (fault_told (rows_of t) c.in-Some.fault) c.tell_fault.result computed c.tell_fault.ensures)
