@@ -1,4 +1,4 @@
-//! Why a row is none.
+//! Why lines are no row, and the text of each fault.
 
 use spiel_frac::NoMemory;
 

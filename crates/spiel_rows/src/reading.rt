@@ -1,4 +1,4 @@
-//! The lines of a row.
+//! Reading a row from its lines.
 
 use crate::draft::Draft;
 use crate::fault::Unread;

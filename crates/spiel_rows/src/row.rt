@@ -1,4 +1,4 @@
-//! What a row says.
+//! A row: the words, the files, which calls fail, and what is wanted.
 
 use spiel_frac::{List, Text};
 use std::num::NonZeroUsize;

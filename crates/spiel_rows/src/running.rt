@@ -1,4 +1,4 @@
-//! Runs of a row.
+//! Runs of a row: one, or one with each call failing in turn.
 ghost use Rattle.std.specs.Prelude.{◌≡◌, ◌↔◌, ◌*◌, ◌<◌, [], take, IsTrue, IfOk};
 ghost use Rattle.spiel_rows.specs.Comparing.{Agrees, count_of};
 ghost use Rattle.spiel_rows.specs.Runs.{IsOwn, faults_of};

@@ -1,4 +1,4 @@
-//! Words, which are parted by spaces, and may be quoted.
+//! The words of a row's line, which are parted by spaces and may be quoted.
 ghost use Rattle.std.specs.Prelude.{◌<◌, ◌≤◌, length, IfOk, IfSome};
 
 use crate::bytes::push_bytes;
