@@ -1,7 +1,7 @@
 -- What plays are made of.
 use Rattle.std.specs.Prelude.{◌≡◌, ℕ, ◌+◌, ◌<◌, List, [], ◌∷◌, ◌++◌, length, take, drop, slice_index}
 use Rattle.std.specs.List.{Contains}
-use Rattle.std.proofs.Common.{sym, subst, take-append-drop}
+use Rattle.std.proofs.Common.{sym, subst, ap, ◌∙◌, take-append-drop}
 use Rattle.std.proofs.lemmas.List.{append-nil, take_more}
 use Rattle.std.proofs.Math.Seq.{append_snoc}
 use Rattle.spiel_api.specs.Rules.{Rules, next_of}
@@ -64,6 +64,12 @@ IsPlay-back rules before after h a play e f =
 pub IsPlay-take : (rules : Rules) (h : List ℕ) (k : ℕ) → IsPlay rules h → IsPlay rules (take k h)
 IsPlay-take rules h k play =
     IsPlay-front rules (take k h) (drop k h) (subst (λ z. IsPlay rules z) (sym (take-append-drop k h)) play)
+
+-- a number of a play is legal where it stands
+pub IsPlay-next : (rules : Rules) (h : List ℕ) (k a : ℕ) → IsPlay rules h → k < length h → a ≡ slice_index h k → Contains (next_of rules (take k h)) a
+IsPlay-next rules h k a play within e =
+    let more : take (k + 1) h ≡ take k h ++ a ∷ [] = take_more h k 0 within ∙ ap (λ b. take k h ++ b ∷ []) (sym e) in
+    IsPlay-last rules (take k h) a (subst (IsPlay rules) more (IsPlay-take rules h (k + 1) play))
 
 -- one number more of a list
 pub IsPlay-take_more : (rules : Rules) (h : List ℕ) (k : ℕ) → k < length h → IsPlay rules (take k h) → Contains (next_of rules (take k h)) (slice_index h k) → IsPlay rules (take (k + 1) h)

@@ -1,5 +1,7 @@
 //! The game behind some first numbers.
 ghost use Rattle.std.specs.Prelude.{◌≡◌, IfOk, IfErr, OnOk, MatchResult, None};
+ghost use Rattle.spiel_api.specs.Plays.{IsPlay};
+ghost use Rattle.spiel_api.specs.States.{StandsFor};
 ghost use Rattle.spiel_api.specs.Walks.{IsFinished, HasWalkFault, walk_fault, IsComputed};
 ghost use Rattle.spiel_layers.specs.StartAt.{start_at_rules};
 
@@ -41,6 +43,19 @@ impl<G: Game> StartAt<G> {
     }
 }
 
+// The state that stands for a play.
+fn follow<G: Game>(alloc: Global, game: &G, play: &[u32]) -> Result<G::State, NoMemory>
+    requires game { G.is_game game.now }
+    requires play { IsPlay (G.rules game.now) play.now }
+    ensures { IfOk result (λ s. StandsFor (G.is_at game.now) (G.history_of game.now) s play.now) }
+{
+    let mut state = game.start(alloc)?;
+    for action in play {
+        game.apply(alloc, &mut state, *action)?;
+    }
+    Ok(state)
+}
+
 impl<G: Game> Game for StartAt<G> {
     ghost use Rattle.spiel_layers.specs.StartAt.{start_at_history, start_at_rules, IsStarted, IsStartedAt};
     ghost use Rattle.spiel_layers.specs.StartAtLaws.{started_lawful, started_play};
@@ -78,11 +93,7 @@ impl<G: Game> Game for StartAt<G> {
     }
 
     fn start(&self, alloc: Global) -> Result<G::State, NoMemory> {
-        match walk(alloc, &self.inner, self.prefix.items()) {
-            Ok(state) => Ok(state),
-            // The prefix was walked before, so that memory alone can be wanting.
-            Err(_) => Err(NoMemory),
-        }
+        follow(alloc, &self.inner, self.prefix.items())
     }
 
     fn place(&self, state: &G::State) -> Place {

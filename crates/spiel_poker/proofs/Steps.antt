@@ -6,7 +6,7 @@ use Rattle.std.proofs.lemmas.List.{length-drop, length-reverse, length-take-le, 
 use Rattle.spiel_api.specs.Rules.{next_at, next_of}
 use Rattle.spiel_api.specs.Plays.{IsPlay}
 use Rattle.spiel_api.proofs.Members.{none_of_none}
-use Rattle.spiel_api.proofs.PlayLemmas.{IsPlay-take, IsPlay-last}
+use Rattle.spiel_api.proofs.PlayLemmas.{IsPlay-take}
 use Rattle.spiel_poker.specs.declared.leduc.Round.{Round}
 use Rattle.spiel_poker.specs.declared.leduc.Round.TheVariants.{First, Second}
 use Rattle.spiel_poker.specs.declared.leduc.LeducState.{LeducState}
@@ -18,12 +18,6 @@ use Rattle.spiel_poker.specs.Leduc.{Parts, leduc_rules, parts, first_opening, se
 use Rattle.spiel_poker.specs.LeducState.{ShowsParts, HasCards, IsLeducAt, front}
 use Rattle.spiel_poker.specs.Histories.{parts-few, parts-card, parts-last_card, parts-more, flat_by, flat_parts}
 use Rattle.spiel_poker.specs.LeducLaws.{sound_play, highest_low}
-
--- a number of the history is legal where it stands
-pub next_number : (h : List ℕ) (count a : ℕ) → IsPlay leduc_rules h → count < length h → a ≡ slice_index h count → Contains (next_of leduc_rules (take count h)) a
-next_number h count a play within e =
-    let more : take (count + 1) h ≡ take count h ++ a ∷ [] = take_more h count 0 within ∙ ap (λ b. take count h ++ b ∷ []) (sym e) in
-    IsPlay-last leduc_rules (take count h) a (subst (IsPlay leduc_rules) more (IsPlay-take leduc_rules h (count + 1) play))
 
 -- a new state that shows one number more of the history is sound so far
 pub shows_more : (s new : LeducState) (count a : ℕ) → IsPlay leduc_rules s.history → count < length s.history → a ≡ slice_index s.history count → new.history ≡ s.history → ShowsParts new.round new.public new.public_at new.table (parts 2 (take count s.history ++ a ∷ [])) → HasCards new.round (count + 1) → IsLeducAt (front (count + 1) new)

@@ -3,10 +3,11 @@ use Rattle.std.proofs.lemmas.List.{length-take-le}
 use Rattle.spiel_poker.specs.declared.leduc.Round.{Round}
 use Rattle.spiel_poker.specs.declared.leduc.Round.TheVariants.{Second}
 use Rattle.spiel_poker.specs.Betting.{Opening}
-use Rattle.spiel_poker.specs.Leduc.{parts, opening_of}
+use Rattle.spiel_api.proofs.PlayLemmas.{IsPlay-next}
+use Rattle.spiel_poker.specs.Leduc.{leduc_rules, parts, opening_of}
 use Rattle.spiel_poker.specs.LeducState.{round_number, HasCards, ShowsParts, front}
 use Rattle.spiel_poker.specs.Table.{IsTable}
-use Rattle.spiel_poker.proofs.Steps.{next_number, shows_more, shows_card, shows_last_card, shows_word, shows_public, first_round, first_size, second_size, nobody_folded, second_owed, speaks}
+use Rattle.spiel_poker.proofs.Steps.{shows_more, shows_card, shows_last_card, shows_word, shows_public, first_round, first_size, second_size, nobody_folded, second_owed, speaks}
 use Rattle.spiel_poker.proofs.leduc.LeducState.show.Goals as goal
 
 -- the player whose turn it is says a word
@@ -16,7 +17,7 @@ after-self-requires-clause-speaks c =
     let s = front c.args.count now in
     let a = get_or c.items.result.now c.args.count 0 in
     let same : a ≡ get_or now.history c.args.count 0 = ap (λ (xs : List ℕ). get_or xs c.args.count 0) c.items.ensures in
-    let next = next_number now.history c.args.count a c.requires.play c.requires.more same in
+    let next = IsPlay-next leduc_rules now.history c.args.count a c.requires.play c.requires.more same in
     let round = c.requires.shown.shows.round ∙ ap round_number c.in-First.is in
     speaks s a 0 c.requires.shown next round (omega arith)
 
@@ -26,7 +27,7 @@ after-self-requires-in-Second-clause-speaks c =
     let s = front c.args.count now in
     let a = get_or c.items.result.now c.args.count 0 in
     let same : a ≡ get_or now.history c.args.count 0 = ap (λ (xs : List ℕ). get_or xs c.args.count 0) c.items.ensures in
-    let next = next_number now.history c.args.count a c.requires.play c.requires.more same in
+    let next = IsPlay-next leduc_rules now.history c.args.count a c.requires.play c.requires.more same in
     let round = c.requires.shown.shows.round ∙ ap round_number c.in-Second.is in
     speaks s a 1 c.requires.shown next round (second_owed s a c.requires.shown next round)
 
@@ -63,7 +64,7 @@ returns-in-First-clause-shown c =
     let s = front c.args.count now in
     let a = get_or c.items.result.now c.args.count 0 in
     let same : a ≡ get_or now.history c.args.count 0 = ap (λ (xs : List ℕ). get_or xs c.args.count 0) c.items.ensures in
-    let next = next_number now.history c.args.count a c.requires.play c.requires.more same in
+    let next = IsPlay-next leduc_rules now.history c.args.count a c.requires.play c.requires.more same in
     let long : length s.history ≡ c.args.count = length-take-le c.args.count now.history (omega (arith, c.requires.more)) in
     let x = parts 2 s.history in
     let both : 2 ≤ length s.history = subst (λ (r : Round). HasCards r (length s.history)) c.in-First.is c.requires.shown.cards in
@@ -99,7 +100,7 @@ returns-in-Second-clause-shown c =
     let s = front c.args.count now in
     let a = get_or c.items.result.now c.args.count 0 in
     let same : a ≡ get_or now.history c.args.count 0 = ap (λ (xs : List ℕ). get_or xs c.args.count 0) c.items.ensures in
-    let next = next_number now.history c.args.count a c.requires.play c.requires.more same in
+    let next = IsPlay-next leduc_rules now.history c.args.count a c.requires.play c.requires.more same in
     let long : length s.history ≡ c.args.count = length-take-le c.args.count now.history (omega (arith, c.requires.more)) in
     let x = parts 2 s.history in
     let both : 2 ≤ length s.history = subst (λ (r : Round). HasCards r (length s.history)) c.in-Second.is c.requires.shown.cards in
