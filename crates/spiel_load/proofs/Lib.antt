@@ -1,9 +1,4 @@
-pub mod Cards
-pub mod Dice
 pub mod Finding
-pub mod Inner
-pub mod Loaded
 pub mod Nested
-pub mod Ranges
-pub mod Taken
-pub mod Wrongs
+pub mod Reading
+pub mod Tables

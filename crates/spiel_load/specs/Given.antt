@@ -1,15 +1,13 @@
--- What is given to a game with these parameters, and the first that is wrong with it. What is given is a list of keys with
--- their values. The keys of a well formed game rise in byte order, and those of each game of the table too, so the first
--- is the first in byte order.
-use Rattle.std.specs.Prelude.{ℕ, ◌&&◌, Bool, false, not, List, [], ◌∷◌, Option, Some, None}
-use Rattle.std.specs.List.{find}
-use Rattle.std.specs.Option.{is_some, option_map}
+-- What a game string asks for, and what is read of it: what is right, or else the first fault.
+use Rattle.std.specs.Prelude.{ℕ, not, List, [], ◌∷◌, Option, Some, None, Result, Ok, Err}
+use Rattle.std.specs.List.{find, list_any}
+use Rattle.std.specs.Option.{option_map}
 use Rattle.std.specs.Str.{bytes_eq}
-use Rattle.spiel_string.specs.Game.{Params, no_params, param, Value}
-use Rattle.spiel_load.specs.Params.{Param, in_range, param_at}
+use Rattle.spiel_string.specs.Game.{Game, game, Params, no_params, param, Value}
 use Rattle.spiel_load.specs.declared.fault.LoadFault.{LoadFault}
 use Rattle.spiel_load.specs.declared.fault.LoadFault.TheVariants.{UnknownParam, BadParam}
 
+-- keys with their values; the keys of a well formed game rise in byte order
 abbrev pub Given : Type 0
 Given = List (List ℕ × Value)
 
@@ -18,45 +16,50 @@ abbrev pub given_of : Params → Given
 given_of no_params = []
 given_of (param key value rest) = (key, value) ∷ given_of rest
 
--- the game has no parameter of this key
-abbrev pub is_unknown : List Param → List ℕ × Value → Bool
-is_unknown params pair = not (is_some (param_at params pair.0))
+-- the game of a name, with what is given to it
+pub record Asked : Type 0 where
+  pub name : List ℕ
+  pub given : Given
 
-abbrev pub is_refused : Option Param → Value → Bool
-is_refused None value = false
-is_refused (Some p) value = not (in_range p.range value)
+-- what a game string asks for
+abbrev pub asked_by : Game → Asked
+asked_by (game name params) = record { name = name; given = given_of params }
 
--- the game has a parameter of this key, which can't have this value
-abbrev pub is_bad : List Param → List ℕ × Value → Bool
-is_bad params pair = is_refused (param_at params pair.0) pair.1
+abbrev pub Read : Type 0 → Type 0
+Read A = Result A LoadFault
 
--- no value is given for the key
-abbrev pub is_absent : Given → List ℕ → Bool
-is_absent given key = not (is_some (find (λ pair. bytes_eq pair.0 key) given))
+-- goes on with what was read, unless there is a fault
+infixr 20 ◌>>=◌
+abbrev pub ◌>>=◌ : {A B : Type 0} → Read A → (A → Read B) → Read B
+◌>>=◌ (Ok x) next = next x
+◌>>=◌ (Err fault) next = Err fault
 
--- the parameter has to be given, and isn't
-abbrev pub is_missing : Given → Param → Bool
-is_missing given p = not (is_some p.default) && is_absent given p.key
+-- the value that is given for the key
+abbrev pub given_at : Given → List ℕ → Option Value
+given_at given key = option_map (λ pair. pair.1) (find (λ pair. bytes_eq pair.0 key) given)
 
--- the first key that the game hasn't
-abbrev pub unknown_key : List Param → Given → Option (List ℕ)
-unknown_key params given = option_map (λ pair. pair.0) (find (is_unknown params) given)
+-- the first key that is none of these
+abbrev pub other_key : List (List ℕ) → Given → Option (List ℕ)
+other_key keys given = option_map (λ pair. pair.0) (find (λ pair. not (list_any (λ key. bytes_eq key pair.0) keys)) given)
 
--- the first given key whose value isn't in its range
-abbrev pub bad_key : List Param → Given → Option (List ℕ)
-bad_key params given = option_map (λ pair. pair.0) (find (is_bad params) given)
+abbrev pub unless_unknown : List ℕ → Option (List ℕ) → Read (Unit {0})
+unless_unknown name None = Ok tt
+unless_unknown name (Some key) = Err (UnknownParam name key)
 
--- the first key that has to be given and isn't
-abbrev pub missing_key : List Param → Given → Option (List ℕ)
-missing_key params given = option_map (λ p. p.key) (find (is_missing given) params)
+-- a game that has parameters of these keys is given no others
+unfoldable pub only_keys : Asked → List (List ℕ) → Read (Unit {0})
+only_keys asked keys = unless_unknown asked.name (other_key keys asked.given)
 
--- which of these comes first: a key that the game hasn't, one with a bad value, one that is missing
-abbrev pub first_of : List ℕ → Option (List ℕ) → Option (List ℕ) → Option (List ℕ) → Option LoadFault
-first_of name (Some key) bad missing = Some (UnknownParam name key)
-first_of name None (Some key) missing = Some (BadParam name key)
-first_of name None None (Some key) = Some (BadParam name key)
-first_of name None None None = None
+-- what the parameter of this key has to have
+abbrev pub required : {A : Type 0} → Asked → List ℕ → Option A → Read A
+required asked key (Some x) = Ok x
+required asked key None = Err (BadParam asked.name key)
 
--- the first that is wrong with what is given to the game of this name
-abbrev pub wrong_with : List ℕ → List Param → Given → Option LoadFault
-wrong_with name params given = first_of name (unknown_key params given) (bad_key params given) (missing_key params given)
+-- what a given value means, if the parameter can have it
+abbrev pub given_value : {A : Type 0} → (Value → Option A) → Asked → List ℕ → Option Value → Read (Option A)
+given_value meaning asked key None = Ok None
+given_value meaning asked key (Some value) = required asked key (meaning value) >>= λ x. Ok (Some x)
+
+-- the parameter of this key, where it is given, by what its values mean
+unfoldable pub optional : {A : Type 0} → (Value → Option A) → Asked → List ℕ → Read (Option A)
+optional meaning asked key = given_value meaning asked key (given_at asked.given key)

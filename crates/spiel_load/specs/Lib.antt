@@ -1,11 +1,7 @@
-pub mod Base
+pub mod Asked
 pub mod Faults
+pub mod Games
 pub mod Given
-pub mod Histories
-pub mod Making
 pub mod Named
 pub mod Params
-pub mod Settings
-pub mod Table
 pub mod Transforms
-pub mod Wrong

@@ -1,56 +1,50 @@
--- The parameters of a game, and the values that each may have.
-use Rattle.std.specs.Prelude.{ℕ, ◌&&◌, pos, Bool, true, false, List, map, nat_le, Option}
-use Rattle.std.specs.List.{list_any, find}
-use Rattle.std.specs.Option.{is_some, option_map}
+-- The kinds of parameters: what their values mean, and how one is read.
+use Rattle.std.specs.Prelude.{ℕ, ◌&&◌, pos, Bool, List, [], ◌∷◌, nat_le, Option, Some, None, Ok, unwrap_or, if◌then◌else◌}
+use Rattle.std.specs.List.{find}
+use Rattle.std.specs.Option.{option_map}
 use Rattle.std.specs.Str.{bytes_eq}
+use Rattle.spiel_frac.specs.Listed.{numbers_between}
 use Rattle.spiel_string.specs.Game.{Value, int, flag, word, inner}
-use Rattle.spiel_load.specs.Histories.{history_in}
-use Rattle.spiel_load.specs.declared.params.Range.{Range as CodeRange}
-use Rattle.spiel_load.specs.declared.params.Range.TheVariants.{Whole, Flag, OneOf, Game, History}
-use Rattle.spiel_load.specs.declared.params.Setting.{Setting}
-use Rattle.spiel_load.specs.declared.params.Setting.TheVariants as setting
-use Rattle.spiel_load.specs.declared.params.Param.{Param as CodeParam}
+use Rattle.spiel_load.specs.Given.{Asked, asked_by, Read, ◌>>=◌, optional}
 
--- a whole number from the first to the last of these, a flag, one of these words, a game, or a history
-pub data Range : Type 0 where
-  whole : ℕ → ℕ → Range
-  any_flag : Range
-  one_of : List (List ℕ) → Range
-  any_game : Range
-  any_history : Range
+-- a whole number from the first to the last of these
+abbrev pub number_in : ℕ → ℕ → Value → Option ℕ
+number_in least most (int (pos n)) = if nat_le least n && nat_le n most then Some n else None
+number_in least most value = None
 
--- a parameter has a key, a range, and a value for where none is given; with no such value one has to be given
-pub record Param : Type 0 where
-  pub key : List ℕ
-  pub range : Range
-  pub default : Option Value
+abbrev pub flag_in : Value → Option Bool
+flag_in (flag b) = Some b
+flag_in value = None
 
--- the value is one that the parameter may have; a word in the place of a game is the name of one
-abbrev pub in_range : Range → Value → Bool
-in_range (whole least most) (int (pos n)) = nat_le least n && nat_le n most
-in_range any_flag (flag b) = true
-in_range (one_of words) (word text) = list_any (λ w. bytes_eq w text) words
-in_range any_game (word text) = true
-in_range any_game (inner g) = true
-in_range any_history value = is_some (history_in value)
-in_range range value = false
+-- what one of these words says
+abbrev pub chosen : {A : Type 0} → List (List ℕ × A) → List ℕ → Option A
+chosen choices text = option_map (λ choice. choice.1) (find (λ choice. bytes_eq text choice.0) choices)
 
--- the parameter of this key
-abbrev pub param_at : List Param → List ℕ → Option Param
-param_at params key = find (λ p. bytes_eq p.key key) params
+abbrev pub choice_in : {A : Type 0} → List (List ℕ × A) → Value → Option A
+choice_in choices (word text) = chosen choices text
+choice_in choices value = None
 
--- what the code's ranges, values and parameters are
-abbrev pub range_view : CodeRange → Range
-range_view (Whole least most) = whole least most
-range_view Flag = any_flag
-range_view (OneOf words) = one_of (map (λ w. w.now) words.now)
-range_view Game = any_game
-range_view History = any_history
+-- a game; a word is the name of one with nothing given
+abbrev pub game_in : Value → Option Asked
+game_in (word name) = Some (record { name = name; given = [] })
+game_in (inner g) = Some (asked_by g)
+game_in value = None
 
-abbrev pub setting_view : Setting → Value
-setting_view (setting.Whole n) = int n
-setting_view (setting.Flag b) = flag b
-setting_view (setting.Word w) = word w.now
+-- a history: one number below 2^32, or such numbers with semicolons between them
+abbrev pub history_in : Value → Option (List ℕ)
+history_in (int (pos n)) = if nat_le n 4294967295 then Some (n ∷ []) else None
+history_in (word text) = numbers_between 59 text
+history_in value = None
 
-abbrev pub param_view : CodeParam → Param
-param_view p = record { key = p.key.now; range = range_view p.range; default = option_map setting_view p.default }
+-- what is given for the key, or else the last of these
+unfoldable pub flag_at : Asked → List ℕ → Bool → Read Bool
+flag_at asked key default = optional flag_in asked key >>= λ b. Ok (unwrap_or b default)
+
+unfoldable pub number_at : Asked → List ℕ → ℕ → ℕ → ℕ → Read ℕ
+number_at asked key least most default = optional (number_in least most) asked key >>= λ n. Ok (unwrap_or n default)
+
+unfoldable pub choice_at : {A : Type 0} → Asked → List ℕ → List (List ℕ × A) → A → Read A
+choice_at asked key choices default = optional (choice_in choices) asked key >>= λ x. Ok (unwrap_or x default)
+
+unfoldable pub history_at : Asked → List ℕ → Read (List ℕ)
+history_at asked key = optional history_in asked key >>= λ history. Ok (unwrap_or history [])

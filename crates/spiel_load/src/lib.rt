@@ -1,20 +1,14 @@
 //! Games by their names: what a game string names, with its parameters.
 #![tactic(auto)]
 
-mod any;
-mod base;
+mod asked;
 mod fault;
-mod given;
-mod histories;
+mod games;
+mod known;
 mod loading;
-mod making;
 mod nesting;
-mod params;
-mod settings;
-mod table;
 mod transforms;
 
-pub use any::{Any, AnyState};
-pub use base::{Base, BaseState};
 pub use fault::LoadFault;
-pub use loading::load;
+pub use games::Base;
+pub use loading::{Any, load};

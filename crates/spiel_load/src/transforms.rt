@@ -1,18 +1,11 @@
-//! The transforms that have names, their parameters, and what they take for them.
-ghost use Rattle.std.specs.Prelude.{◌≡◌, ℕ, IfOk, List, map, None, Some};
-ghost use Rattle.spiel_string.specs.Game.{game};
-ghost use Rattle.spiel_string.specs.View.{pair_view, params_view, value_view};
-ghost use Rattle.spiel_load.specs.Given.{wrong_with};
-ghost use Rattle.spiel_load.specs.Params.{param_view};
-ghost use Rattle.spiel_load.specs.Transforms.{game_of, inner_game, inner_key, prefix_taken, times_taken, transform_of, transform_params};
-ghost use Rattle.spiel_load.specs.declared.transforms.Transform.TheVariants.{Repeated as OfRounds};
+//! The transforms that have names, and what they take.
+ghost use Rattle.std.specs.Prelude.{◌≡◌};
+ghost use Rattle.spiel_load.specs.Asked.{ReadsAs, asked_view};
+ghost use Rattle.spiel_load.specs.Transforms.{game_taken, rounds_taken, start_taken, transform_of};
 
-use crate::given::find_pair;
-use crate::params::{Param, Range, Setting};
-use crate::settings::{history_at, number_at};
-use spiel_frac::{List, NoMemory, Text};
-use spiel_string::ParamValue;
-use std::alloc::Global;
+use crate::asked::Asked;
+use crate::fault::LoadFault;
+use spiel_frac::List;
 
 /// A transform that has a name.
 #[derive(Clone, Copy)]
@@ -26,43 +19,6 @@ pub enum Transform {
     /// `turn_based_simultaneous_game`
     TurnBased,
 }
-
-/// A game that has to be given.
-const GAME: Param = Param {
-    key: b"game",
-    range: Range::Game,
-    default: None,
-};
-
-/// For a transform that takes a game alone.
-static GAME_ALONE: [Param; 1] = [GAME];
-
-/// The parameters of a game of several rounds.
-static REPEATED: [Param; 2] = [
-    Param {
-        key: b"num_repetitions",
-        range: Range::Whole {
-            least: 0,
-            most: 4_294_967_295,
-        },
-        default: None,
-    },
-    Param {
-        key: b"stage_game",
-        range: Range::Game,
-        default: None,
-    },
-];
-
-/// The parameters of a game that starts behind some first numbers.
-static START_AT: [Param; 2] = [
-    GAME,
-    Param {
-        key: b"history",
-        range: Range::History,
-        default: Some(Setting::Word(b"")),
-    },
-];
 
 /// The transform of this name.
 #[tactic(auto, unfolding(crate::specs::Transforms::transform_of))]
@@ -84,72 +40,43 @@ pub fn find_transform(name: &[u8]) -> Option<Transform>
     None
 }
 
-/// The parameters of a transform, in byte order of their keys.
-pub fn transform_params(transform: Transform) -> &'static [Param]
-    ensures { map param_view result.now ≡ transform_params transform }
+/// The inner game of a transform that takes nothing else.
+#[tactic(auto, using(crate::proofs::Reading::reading_steps), unfolding(crate::specs::Transforms::game_taken))]
+pub fn game_taken(asked: Asked) -> Result<Asked, LoadFault>
+    ensures { ReadsAs asked_view (game_taken (asked_view asked.entry)) result }
 {
-    match transform {
-        Transform::Misere | Transform::TurnBased => &GAME_ALONE,
-        Transform::Repeated => &REPEATED,
-        Transform::StartAt => &START_AT,
+    asked.only_keys(&[b"game"])?;
+    match asked.optional_game(b"game")? {
+        Some(inner) => Ok(inner),
+        None => Err(asked.bad_param(b"game")?),
     }
 }
 
-// The key of the inner game.
-fn inner_key(transform: Transform) -> &'static [u8]
-    ensures { result.now ≡ inner_key transform }
+/// The number of rounds that a transform takes, and their stage.
+#[tactic(auto, using(crate::proofs::Reading::reading_steps), unfolding(crate::specs::Transforms::rounds_taken))]
+pub fn rounds_taken(asked: Asked) -> Result<(u32, Asked), LoadFault>
+    ensures { ReadsAs (λ taken. (taken.0, asked_view taken.1)) (rounds_taken (asked_view asked.entry)) result }
 {
-    match transform {
-        Transform::Misere | Transform::StartAt | Transform::TurnBased => b"game",
-        Transform::Repeated => b"stage_game",
+    asked.only_keys(&[b"num_repetitions", b"stage_game"])?;
+    let times = asked.optional_number(b"num_repetitions", 0, u32::MAX)?;
+    let stage = asked.optional_game(b"stage_game")?;
+    match (times, stage) {
+        (Some(times), Some(stage)) => Ok((times, stage)),
+        (None, _) => Err(asked.bad_param(b"num_repetitions")?),
+        (Some(_), None) => Err(asked.bad_param(b"stage_game")?),
     }
 }
 
-// The game that a value names, as its name and what is given to it.
-fn game_of(value: &ParamValue) -> (&[u8], &[(Text, ParamValue)])
-    ensures { game result.0.now (params_view result.1.now) ≡ game_of (Some (value_view value.now)) }
+/// The numbers behind which a transform starts a game, and the game.
+#[tactic(auto, using(crate::proofs::Reading::reading_steps), unfolding(crate::specs::Transforms::start_taken))]
+pub fn start_taken(asked: Asked) -> Result<(List<u32>, Asked), LoadFault>
+    ensures { ReadsAs (λ taken. (taken.0, asked_view taken.1)) (start_taken (asked_view asked.entry)) result }
 {
-    match value {
-        ParamValue::Word(name) => (name.bytes(), &[]),
-        ParamValue::Game(inner) => (inner.name.bytes(), inner.params.items()),
-        ParamValue::Int(_) | ParamValue::Flag(_) => (b"", &[]),
+    asked.only_keys(&[b"game", b"history"])?;
+    let inner = asked.optional_game(b"game")?;
+    let prefix = asked.history(b"history")?;
+    match inner {
+        Some(inner) => Ok((prefix, inner)),
+        None => Err(asked.bad_param(b"game")?),
     }
-}
-
-/// The inner game that a transform takes, as its name and what is given to it. Where none is given, the
-/// name is empty.
-pub fn inner_game<'a>(
-    transform: Transform,
-    given: &'a [(Text, ParamValue)],
-) -> (&'a [u8], &'a [(Text, ParamValue)])
-    ensures { game result.0.now (params_view result.1.now) ≡ inner_game transform (map pair_view given.now) }
-{
-    match find_pair(given, inner_key(transform)) {
-        Some(pair) => game_of(&pair.1),
-        None => (b"", &[]),
-    }
-}
-
-/// How many rounds of the stage a transform takes, where nothing is wrong with what is given.
-pub fn times_taken(given: &[(Text, ParamValue)]) -> u32
-    requires { (name : List ℕ) → wrong_with name (transform_params OfRounds) (map pair_view given.now) ≡ None }
-    ensures { result ≡ times_taken (map pair_view given.now) }
-{
-    number_at(
-        transform_params(Transform::Repeated),
-        given,
-        b"num_repetitions",
-    ) as u32
-}
-
-/// The numbers behind which a game starts.
-pub fn prefix_taken(alloc: Global, given: &[(Text, ParamValue)]) -> Result<List<u32>, NoMemory>
-    ensures { IfOk result (λ prefix. prefix ≡ prefix_taken (map pair_view given.now)) }
-{
-    history_at(
-        alloc,
-        transform_params(Transform::StartAt),
-        given,
-        b"history",
-    )
 }

@@ -1,5 +1,6 @@
 //! Kuhn poker of two players (Kuhn 1950, "A simplified two-person poker").
 ghost use Rattle.std.specs.Prelude.{◌≡◌, ◌<◌, ◌-◌, ℕ, take, length, ◌↔◌, [], ◌∷◌, ◌++◌, IsOk, nat_lt, if◌then◌else◌, Some, codes};
+ghost use Rattle.spiel_poker.specs.Kuhn.{kuhn_rules};
 ghost use Rattle.spiel_poker.specs.KuhnState.{told, TakesWord};
 
 use spiel_api::{Game, Place};
@@ -68,10 +69,19 @@ impl Kuhn {
         ensures { IsOk result ↔ (players ≡ 2) }
     {
         if players == 2 {
-            Ok(Kuhn { players })
+            Ok(Kuhn::of(players))
         } else {
             Err(BadPlayers)
         }
+    }
+
+    /// The same game, of 2 players.
+    pub fn of(players: u32) -> Kuhn
+        requires { players ≡ 2 }
+        ensures game { ⟦<Kuhn as Game>⟧.is_game result }
+        ensures rules { ⟦<Kuhn as Game>⟧.rules result ≡ kuhn_rules }
+    {
+        Kuhn { players }
     }
 }
 

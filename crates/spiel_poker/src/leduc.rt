@@ -3,7 +3,7 @@ ghost use Rattle.std.specs.Prelude.{◌≡◌, ◌<◌, ◌+◌, ◌↔◌, IsOk
 ghost use Rattle.std.specs.Fmt.{decimal};
 ghost use Rattle.spiel_frac.specs.Adding.{Adds};
 ghost use Rattle.spiel_poker.specs.Betting.{word_letter};
-ghost use Rattle.spiel_poker.specs.Leduc.{first_opening, second_opening, better_card, winner_in, bet_name};
+ghost use Rattle.spiel_poker.specs.Leduc.{first_opening, second_opening, better_card, winner_in, bet_name, leduc_rules};
 ghost use Rattle.spiel_poker.specs.Table.{IsTable, seats};
 
 use crate::betting::{CALL, FOLD, Table};
@@ -73,10 +73,19 @@ impl Leduc {
         ensures { IsOk result ↔ (players ≡ 2) }
     {
         if players == 2 {
-            Ok(Leduc { players })
+            Ok(Leduc::of(players))
         } else {
             Err(BadPlayers)
         }
+    }
+
+    /// The same game, of 2 players.
+    pub fn of(players: u32) -> Leduc
+        requires { players ≡ 2 }
+        ensures game { ⟦<Leduc as Game>⟧.is_game result }
+        ensures rules { ⟦<Leduc as Game>⟧.rules result ≡ leduc_rules }
+    {
+        Leduc { players }
     }
 }
 
