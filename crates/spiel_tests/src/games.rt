@@ -17,13 +17,13 @@ pub(super) struct Want {
     pub constant_sum: bool,
 }
 
-/// A game, a policy, and what it comes to.
+/// A game, a policy, and what it comes to: nothing where the numbers are too large.
 pub(super) struct Row {
     pub players: u32,
     pub unit: u64,
     pub nodes: &'static [Node],
     pub given: Given,
-    pub want: Want,
+    pub want: Option<Want>,
 }
 
 /// Chance draws, and each of three players moves once, of whom player 0 has one number alone. What they get
@@ -135,14 +135,14 @@ pub(super) static ROWS: [Row; 13] = [
         unit: 3,
         nodes: &[Node::Terminal(&[5, -7])],
         given: Given::Uniform,
-        want: Want {
+        want: Some(Want {
             total: 3,
             values: &[5, -7],
             bests: &[5, -7],
             answers: &[],
             nash_conv: 0,
             constant_sum: true,
-        },
+        }),
     },
     // one player alone has no constant sum
     Row {
@@ -150,14 +150,14 @@ pub(super) static ROWS: [Row; 13] = [
         unit: 1,
         nodes: &[],
         given: Given::First,
-        want: Want {
+        want: Some(Want {
             total: 1,
             values: &[0],
             bests: &[0],
             answers: &[],
             nash_conv: 0,
             constant_sum: false,
-        },
+        }),
     },
     // a 0 gets (1 * 4 + 2 * -1) / 3, a 1 gets (1 * -1 + 2 * 7) / 3; the draw 2 counts nothing
     Row {
@@ -165,14 +165,14 @@ pub(super) static ROWS: [Row; 13] = [
         unit: 1,
         nodes: DRAWN,
         given: Given::Uniform,
-        want: Want {
+        want: Some(Want {
             total: 6,
             values: &[15],
             bests: &[26],
             answers: &[1],
             nash_conv: 11,
             constant_sum: false,
-        },
+        }),
     },
     // the same in thirds, since all take 0
     Row {
@@ -180,14 +180,14 @@ pub(super) static ROWS: [Row; 13] = [
         unit: 1,
         nodes: DRAWN,
         given: Given::First,
-        want: Want {
+        want: Some(Want {
             total: 3,
             values: &[2],
             bests: &[13],
             answers: &[1],
             nash_conv: 11,
             constant_sum: false,
-        },
+        }),
     },
     // player 0: 0 gets (1 - 4 + 6) / 3, 1 gets (-4 + 3 * 6) / 4; player 1: half of 3 and of
     // (2 + 3 * 3) / 4, by 2
@@ -196,14 +196,14 @@ pub(super) static ROWS: [Row; 13] = [
         unit: 1,
         nodes: UNEVEN,
         given: Given::Uniform,
-        want: Want {
+        want: Some(Want {
             total: 24,
             values: &[54, 49],
             bests: &[84, 69],
             answers: &[1, 2],
             nash_conv: 50,
             constant_sum: false,
-        },
+        }),
     },
     // player 0: 0 gets 1, 1 gets 14 / 4; player 1: all of 3, by 2
     Row {
@@ -211,14 +211,14 @@ pub(super) static ROWS: [Row; 13] = [
         unit: 1,
         nodes: UNEVEN,
         given: Given::First,
-        want: Want {
+        want: Some(Want {
             total: 4,
             values: &[4, -4],
             bests: &[14, 12],
             answers: &[1, 2],
             nash_conv: 26,
             constant_sum: false,
-        },
+        }),
     },
     // player 1: 0 gets (-1 + 3 * 5 + 3 * 0 + 2 * 1) / 9 and 1 gets (5 + 0 + 3 - 12) / 9; player 2:
     // 0 gets (0 + 3 - 8) / 6, 1 gets (1 - 12 - 4) / 6, 2 gets (-4 - 6 + 4) / 6; halves of these
@@ -227,14 +227,14 @@ pub(super) static ROWS: [Row; 13] = [
         unit: 2,
         nodes: THREE,
         given: Given::Uniform,
-        want: Want {
+        want: Some(Want {
             total: 36,
             values: &[42, 12, -26],
             bests: &[42, 32, -15],
             answers: &[0, 0, 0],
             nash_conv: 31,
             constant_sum: false,
-        },
+        }),
     },
     // the sums 2, 3 and 4 come 1, 3 and 2 times of 6; player 1: 0 gets (5 + 0 + 2) / 6; player 2:
     // 0 gets (1 - 8) / 3, 1 gets (-4 - 4) / 3, 2 gets (-2 + 4) / 3
@@ -243,14 +243,14 @@ pub(super) static ROWS: [Row; 13] = [
         unit: 2,
         nodes: THREE,
         given: Given::File(THREE_POLICY),
-        want: Want {
+        want: Some(Want {
             total: 12,
             values: &[10, -9, -6],
             bests: &[10, 7, 4],
             answers: &[0, 0, 2],
             nash_conv: 26,
             constant_sum: false,
-        },
+        }),
     },
     // b: 0 gets (6 + 2 * 2) / 3, 1 gets (-3 + 2 * 1) / 3; c: 0 gets 6; so a takes 1; the value is a
     // half of (10/3 - 1/3) / 2 and of 7/2
@@ -259,14 +259,14 @@ pub(super) static ROWS: [Row; 13] = [
         unit: 1,
         nodes: TWO_ROUNDS,
         given: Given::Uniform,
-        want: Want {
+        want: Some(Want {
             total: 12,
             values: &[30],
             bests: &[72],
             answers: &[1, 0, 0],
             nash_conv: 42,
             constant_sum: false,
-        },
+        }),
     },
     // at b, which is never reached, all numbers get 0: the first is taken
     Row {
@@ -274,14 +274,14 @@ pub(super) static ROWS: [Row; 13] = [
         unit: 1,
         nodes: NEVER,
         given: Given::Uniform,
-        want: Want {
+        want: Some(Want {
             total: 2,
             values: &[3],
             bests: &[4],
             answers: &[1, 0],
             nash_conv: 1,
             constant_sum: false,
-        },
+        }),
     },
     // as without the draw, but the sum of 4 counts as well
     Row {
@@ -289,14 +289,14 @@ pub(super) static ROWS: [Row; 13] = [
         unit: 1,
         nodes: NEARLY_SHARED,
         given: Given::Uniform,
-        want: Want {
+        want: Some(Want {
             total: 4,
             values: &[6, 6],
             bests: &[8, 14],
             answers: &[0, 0],
             nash_conv: 10,
             constant_sum: false,
-        },
+        }),
     },
     // player 1 gets 1 in place of 0 or 1 by halves; the others get what the policy gives them
     Row {
@@ -304,14 +304,14 @@ pub(super) static ROWS: [Row; 13] = [
         unit: 1,
         nodes: ZERO_OF_THREE,
         given: Given::Uniform,
-        want: Want {
+        want: Some(Want {
             total: 2,
             values: &[-1, 1, 0],
             bests: &[-1, 2, 0],
             answers: &[1],
             nash_conv: 1,
             constant_sum: false,
-        },
+        }),
     },
     // thirtieths: 5 of 3, 10 of -5, 3 of -5, 12 of 8
     Row {
@@ -319,13 +319,13 @@ pub(super) static ROWS: [Row; 13] = [
         unit: 7,
         nodes: FORKED,
         given: Given::Uniform,
-        want: Want {
+        want: Some(Want {
             total: 210,
             values: &[46],
             bests: &[46],
             answers: &[],
             nash_conv: 0,
             constant_sum: false,
-        },
+        }),
     },
 ];

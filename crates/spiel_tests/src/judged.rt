@@ -3,10 +3,13 @@ ghost use Rattle.std.specs.Prelude.{◌≡◌, ◌<◌, ◌≤◌, ℕ, true, If
 ghost use Rattle.spiel_policy.specs.Profiles.{Fits};
 ghost use Rattle.spiel_response.specs.Answered.{is_made};
 
-use super::games::{ROWS, Row, Want};
+use super::games::{self, Row, Want};
+use super::overflow;
 use super::policies::{policy_for, tree_of};
 use spiel_policy::Policy;
-use spiel_response::{Work, answer_at, constant_sum, nash_conv, prepare, respond, value};
+use spiel_response::{
+    JudgeFault, Work, answer_at, constant_sum, nash_conv, prepare, respond, value,
+};
 use spiel_tree::Tree;
 use std::alloc::Global;
 
@@ -77,16 +80,27 @@ fn has_judgement(tree: &Tree, work: &Work, want: &Want) -> bool
         && constant_sum(work) == want.constant_sum
 }
 
+/// Whether this comes of a policy, when its values are made.
+fn is_judged(alloc: Global, tree: &Tree, work: &mut Work, want: &Want) -> bool
+    requires { work.old.judged.tree ≡ tree.now }
+{
+    match responses(alloc, work, tree.players()) {
+        Some(bests) => bests.as_slice() == want.bests && has_judgement(tree, work, want),
+        None => false,
+    }
+}
+
 /// Whether a policy comes to this.
-fn comes_to(alloc: Global, tree: &Tree, policy: &Policy, want: &Want) -> bool
+fn comes_to(alloc: Global, tree: &Tree, policy: &Policy, want: &Option<Want>) -> bool
     requires { Fits tree.now policy.now }
 {
-    let Ok(mut work) = prepare(alloc, tree, policy) else {
-        return false;
-    };
-    match responses(alloc, &mut work, tree.players()) {
-        Some(bests) => bests.as_slice() == want.bests && has_judgement(tree, &work, want),
-        None => false,
+    match prepare(alloc, tree, policy) {
+        Ok(mut work) => match want {
+            Some(want) => is_judged(alloc, tree, &mut work, want),
+            None => false,
+        },
+        Err(JudgeFault::Overflow) => want.is_none(),
+        Err(JudgeFault::NoMemory) => false,
     }
 }
 
@@ -101,8 +115,8 @@ fn is_row(alloc: Global, row: &Row) -> bool {
 }
 
 /// The first row that isn't so, if there is one.
-fn wrong_row(alloc: Global) -> Option<usize> {
-    for (i, row) in ROWS.iter().enumerate() {
+fn wrong_row(alloc: Global, rows: &[Row]) -> Option<usize> {
+    for (i, row) in rows.iter().enumerate() {
         if !is_row(alloc, row) {
             return Some(i);
         }
@@ -112,5 +126,10 @@ fn wrong_row(alloc: Global) -> Option<usize> {
 
 #[test]
 fn policies_are_judged(rt: HostRuntime) {
-    assert_eq!(rt; wrong_row(rt.alloc()), None);
+    assert_eq!(rt; wrong_row(rt.alloc(), &games::ROWS), None);
+}
+
+#[test]
+fn numbers_are_counted_up_to_127_bits(rt: HostRuntime) {
+    assert_eq!(rt; wrong_row(rt.alloc(), &overflow::ROWS), None);
 }
