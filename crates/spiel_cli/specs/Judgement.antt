@@ -54,8 +54,8 @@ pub record AreOfCase (game policy : List ℕ) (files : Files) (case : Case) : Ty
 
 -- ---- what the numbers are
 -- The response of a player takes the first of the best numbers at each of the player's information states, and no other
--- does. No policy of the player earns more against the others, of whatever probabilities, no other response, and not what the
--- policy has the player do.
+-- does. No policy of the player whose probabilities are fractions earns more against the others, no other response, and not
+-- what the policy has the player do.
 pub record IsAnswered (j : Judged) (p : ℕ) : Type 0 where
   pub rule : IsResponse j p (response j p)
   pub only : IsOnlyResponse j p
