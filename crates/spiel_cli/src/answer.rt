@@ -8,6 +8,7 @@ ghost use Rattle.spiel_cli.specs.Refusal.{kind_of};
 
 use crate::judge::judge;
 use crate::legal::legal;
+use crate::named::Load;
 use crate::policy::policy;
 use crate::refusal::Refusal;
 use crate::restore::restore;
@@ -20,7 +21,7 @@ use spiel_words::{Command, read_words};
 use std::alloc::Global;
 
 /// Does what a command says, up to the writing.
-fn answer_command<F: Shelf>(
+fn answer_command<G: Load, F: Shelf>(
     alloc: Global,
     command: &Command,
     shelf: &mut F,
@@ -30,29 +31,38 @@ fn answer_command<F: Shelf>(
     ensures begins { BeginsAtMost (command_names command.now) 1 (F.state shelf.old) (F.state shelf.new) }
 {
     match command {
-        Command::Restore { file } => restore(alloc, shelf, file.bytes()),
-        Command::Save { game, list } => save(alloc, game.bytes(), list.bytes()),
-        Command::Legal { game, list } => legal(alloc, game.bytes(), list.bytes()),
-        Command::Show { game } => show(alloc, game.bytes()),
-        Command::Value { game, policy } => values(alloc, shelf, game.bytes(), policy.bytes()),
+        Command::Restore { file } => restore::<G, F>(alloc, shelf, file.bytes()),
+        Command::Save { game, list } => save::<G>(alloc, game.bytes(), list.bytes()),
+        Command::Legal { game, list } => legal::<G>(alloc, game.bytes(), list.bytes()),
+        Command::Show { game } => show::<G>(alloc, game.bytes()),
+        Command::Value { game, policy } => values::<G, F>(
+            alloc,
+            shelf,
+            game.bytes(),
+            policy.bytes(),
+        ),
         Command::Policy {
             game,
             policy: profile,
-        } => policy(alloc, shelf, game.bytes(), profile.bytes()),
+        } => policy::<G, F>(alloc, shelf, game.bytes(), profile.bytes()),
         Command::Judge {
             game,
             policy,
             brief,
-        } => judge(alloc, shelf, game.bytes(), policy.bytes(), *brief),
+        } => judge::<G, F>(alloc, shelf, game.bytes(), policy.bytes(), *brief),
     }
 }
 
 /// Does what the words say, up to the writing.
-pub fn answer<F: Shelf>(alloc: Global, words: &[String], shelf: &mut F) -> Result<Text, Refusal>
+pub fn answer<G: Load, F: Shelf>(
+    alloc: Global,
+    words: &[String],
+    shelf: &mut F,
+) -> Result<Text, Refusal>
     ensures follows { Follows kind_of (plan_of (map string_bytes words.now)) (F.state shelf.old) (F.state shelf.new) result }
     ensures report { IfSome (command_of (map string_bytes words.now)) (λ command. IfOk result (IsReportBy command (F.state shelf.old).files)) }
     ensures begins { BeginsAtMost (names_in (map string_bytes words.now)) 1 (F.state shelf.old) (F.state shelf.new) }
 {
     let command = read_words(alloc, words).map_err(Refusal::Words)?;
-    answer_command(alloc, &command, shelf)
+    answer_command::<G, F>(alloc, &command, shelf)
 }

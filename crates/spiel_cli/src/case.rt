@@ -10,7 +10,7 @@ ghost use Rattle.spiel_cli.specs.Judgement.{IsOfGame};
 ghost use Rattle.spiel_cli.specs.Policies.{files_in};
 ghost use Rattle.spiel_cli.specs.Refusal.{kind_of};
 
-use crate::named::{load_named, read_game_string};
+use crate::named::{Load, read_game_string};
 use crate::policies::choose_policy;
 use crate::refusal::Refusal;
 use spiel_api::Game;
@@ -56,7 +56,7 @@ fn game_policy<F: Shelf, G: Game>(
 }
 
 /// `GAME POLICY`: the game that a word names, and the policy that another says.
-pub fn read_case<F: Shelf>(
+pub fn read_case<G: Load, F: Shelf>(
     alloc: Global,
     shelf: &mut F,
     game: &[u8],
@@ -68,6 +68,6 @@ pub fn read_case<F: Shelf>(
     ensures begins { BeginsAtMost (files_in policy.now) 0 (F.state shelf.old) (F.state shelf.new) }
 {
     let text = read_game_string(alloc, game)?;
-    let game = load_named(alloc, &text)?;
+    let game = G::load(alloc, &text)?;
     game_policy(alloc, shelf, game, text, policy)
 }

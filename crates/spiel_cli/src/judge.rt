@@ -9,6 +9,7 @@ ghost use Rattle.spiel_cli.specs.Refusal.{kind_of};
 ghost use Rattle.spiel_cli.specs.Reports.{case_report, judge_plan, report_text};
 
 use crate::case::read_case;
+use crate::named::Load;
 use crate::refusal::Refusal;
 use crate::reports::report;
 use spiel_frac::Text;
@@ -37,7 +38,7 @@ fn tree_report(
 }
 
 /// `judge GAME POLICY [--brief]`: the report on a policy.
-pub fn judge<F: Shelf>(
+pub fn judge<G: Load, F: Shelf>(
     alloc: Global,
     shelf: &mut F,
     game: &[u8],
@@ -48,6 +49,6 @@ pub fn judge<F: Shelf>(
     ensures report { IfOk result (IsReport game.now policy.now brief (F.state shelf.old).files) }
     ensures begins { BeginsAtMost (files_in policy.now) 0 (F.state shelf.old) (F.state shelf.new) }
 {
-    let case = read_case(alloc, shelf, game, policy)?;
+    let case = read_case::<G, F>(alloc, shelf, game, policy)?;
     tree_report(alloc, &case.text, &case.tree, &case.policy, brief)
 }

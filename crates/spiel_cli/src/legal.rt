@@ -7,7 +7,7 @@ ghost use Rattle.spiel_cli.specs.Refusal.{kind_of};
 ghost use Rattle.spiel_string.specs.View.{view};
 
 use crate::lists::read_list;
-use crate::named::{load_named, read_game_string};
+use crate::named::{Load, read_game_string};
 use crate::refusal::Refusal;
 use spiel_api::{Game, walk};
 use spiel_frac::Text;
@@ -32,20 +32,20 @@ fn show_choices<G: Game>(
 }
 
 /// What may be chosen after a history of the game that a word names.
-fn show_choices_named(alloc: Global, game: &[u8], history: &[u32]) -> Result<Text, Refusal>
+fn show_choices_named<G: Load>(alloc: Global, game: &[u8], history: &[u32]) -> Result<Text, Refusal>
     ensures { Agrees kind_of (with_game game.now (choices_of history.now)) None result }
 {
     let text = read_game_string(alloc, game)?;
-    let game = load_named(alloc, &text)?;
+    let game = G::load(alloc, &text)?;
     show_choices(alloc, game, &text, history)
 }
 
 /// `legal GAME LIST`: the chance outcomes after a play, or the legal actions of whoever chooses next.
-pub fn legal(alloc: Global, game: &[u8], list: &[u8]) -> Result<Text, Refusal>
+pub fn legal<G: Load>(alloc: Global, game: &[u8], list: &[u8]) -> Result<Text, Refusal>
     ensures { Agrees kind_of (legal_plan game.now list.now) None result }
 {
     let Some(history) = read_list(alloc, list)? else {
         return Err(Refusal::BadList);
     };
-    show_choices_named(alloc, game, history.items())
+    show_choices_named::<G>(alloc, game, history.items())
 }

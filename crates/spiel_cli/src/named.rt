@@ -11,7 +11,7 @@ ghost use Rattle.spiel_cli.specs.declared.refusal.Refusal.TheVariants.{GameStrin
 
 use crate::refusal::Refusal;
 use spiel_api::Game;
-use spiel_load::{Any, load};
+use spiel_load::Any;
 use spiel_string::{GameText, read_game};
 use std::alloc::Global;
 
@@ -23,11 +23,18 @@ pub fn read_game_string(alloc: Global, word: &[u8]) -> Result<GameText, Refusal>
     read_game(alloc, word).map_err(Refusal::GameString)
 }
 
-/// The game that a game string names.
-pub fn load_named(alloc: Global, text: &GameText) -> Result<Any, Refusal>
-    requires { IsWellFormed (view text.now) }
-    ensures agrees { Agrees kind_of (decide Loading (named_game (view text.now))) None (seeing ⟦<Any as Game>⟧.rules result) }
-    ensures playable { IfOk result ⟦<Any as Game>⟧.is_game }
-{
-    load(alloc, text).map_err(Refusal::Loading)
+/// A type for all games that game strings name. What commands do is proved for any such type, so that no
+/// proof sees what `Any` is made of.
+pub trait Load: Game {
+    /// The game that a game string names.
+    fn load(alloc: Global, text: &GameText) -> Result<Self, Refusal>
+        requires { IsWellFormed (view text.now) }
+        ensures agrees { Agrees kind_of (decide Loading (named_game (view text.now))) None (seeing Self.rules result) }
+        ensures playable { IfOk result Self.is_game };
+}
+
+impl Load for Any {
+    fn load(alloc: Global, text: &GameText) -> Result<Any, Refusal> {
+        spiel_load::load(alloc, text).map_err(Refusal::Loading)
+    }
 }

@@ -8,6 +8,7 @@ ghost use Rattle.spiel_cli.specs.Policy.{case_file, policy_plan};
 ghost use Rattle.spiel_cli.specs.Refusal.{kind_of};
 
 use crate::case::{Case, read_case};
+use crate::named::Load;
 use crate::refusal::Refusal;
 use spiel_frac::Text;
 use spiel_io::Shelf;
@@ -25,7 +26,7 @@ fn file_of(alloc: Global, case: &Case) -> Result<Text, Refusal>
 }
 
 /// `policy GAME POLICY`: the policy as a file.
-pub fn policy<F: Shelf>(
+pub fn policy<G: Load, F: Shelf>(
     alloc: Global,
     shelf: &mut F,
     game: &[u8],
@@ -34,6 +35,6 @@ pub fn policy<F: Shelf>(
     ensures follows { Follows kind_of (policy_plan game.now policy.now) (F.state shelf.old) (F.state shelf.new) result }
     ensures begins { BeginsAtMost (files_in policy.now) 0 (F.state shelf.old) (F.state shelf.new) }
 {
-    let case = read_case(alloc, shelf, game, policy)?;
+    let case = read_case::<G, F>(alloc, shelf, game, policy)?;
     file_of(alloc, &case)
 }

@@ -10,7 +10,7 @@ ghost use Rattle.spiel_cli.specs.declared.refusal.Refusal.TheVariants.{SavedFile
 ghost use Rattle.spiel_cli.specs.Restore.{played_of, restore_plan, play_in_file, state_of, state_of_play};
 
 use crate::files::read_file;
-use crate::named::load_named;
+use crate::named::Load;
 use crate::refusal::Refusal;
 use spiel_api::{Game, walk};
 use spiel_frac::Text;
@@ -47,28 +47,32 @@ fn show_state<G: Game>(
 }
 
 /// The game of a saved play, and the lines of its state.
-fn show_saved(alloc: Global, saved: &Saved) -> Result<Text, Refusal>
+fn show_saved<G: Load>(alloc: Global, saved: &Saved) -> Result<Text, Refusal>
     requires { IsWellFormed (view saved.now.game) }
     ensures { Agrees kind_of (state_of_play (played_of saved.now)) None result }
 {
-    let game = load_named(alloc, &saved.game)?;
+    let game = G::load(alloc, &saved.game)?;
     show_state(alloc, game, &saved.game, saved.history.items())
 }
 
 /// What the bytes of a saved file show.
-fn restore_bytes(alloc: Global, bytes: &[u8]) -> Result<Text, Refusal>
+fn restore_bytes<G: Load>(alloc: Global, bytes: &[u8]) -> Result<Text, Refusal>
     requires { length bytes.now ≤ file_limit }
     ensures { Agrees kind_of (play_in_file bytes.now) None result }
 {
     let saved = read_play(alloc, bytes)?;
-    show_saved(alloc, &saved)
+    show_saved::<G>(alloc, &saved)
 }
 
 /// `restore FILE`: the state of a saved play.
-pub fn restore<F: Shelf>(alloc: Global, shelf: &mut F, name: &[u8]) -> Result<Text, Refusal>
+pub fn restore<G: Load, F: Shelf>(
+    alloc: Global,
+    shelf: &mut F,
+    name: &[u8],
+) -> Result<Text, Refusal>
     ensures follows { Follows kind_of (restore_plan name.now) (F.state shelf.old) (F.state shelf.new) result }
     ensures begins { BeginsAtMost 1 0 (F.state shelf.old) (F.state shelf.new) }
 {
     let text = read_file(alloc, shelf, name)?;
-    restore_bytes(alloc, text.bytes())
+    restore_bytes::<G>(alloc, text.bytes())
 }

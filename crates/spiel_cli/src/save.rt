@@ -7,7 +7,7 @@ ghost use Rattle.spiel_cli.specs.Refusal.{kind_of};
 ghost use Rattle.spiel_cli.specs.Save.{file_of_play, save_plan};
 
 use crate::lists::read_list;
-use crate::named::{load_named, read_game_string};
+use crate::named::{Load, read_game_string};
 use crate::refusal::Refusal;
 use spiel_api::{Game, walk};
 use spiel_frac::Text;
@@ -32,20 +32,20 @@ fn save_play<G: Game>(
 }
 
 /// The saved file of a history of the game that a word names.
-fn save_history(alloc: Global, game: &[u8], history: &[u32]) -> Result<Text, Refusal>
+fn save_history<G: Load>(alloc: Global, game: &[u8], history: &[u32]) -> Result<Text, Refusal>
     ensures { Agrees kind_of (with_game game.now (file_of_play history.now)) None result }
 {
     let text = read_game_string(alloc, game)?;
-    let game = load_named(alloc, &text)?;
+    let game = G::load(alloc, &text)?;
     save_play(alloc, game, &text, history)
 }
 
 /// `save GAME LIST`: the saved file of a play, which `restore` reads.
-pub fn save(alloc: Global, game: &[u8], list: &[u8]) -> Result<Text, Refusal>
+pub fn save<G: Load>(alloc: Global, game: &[u8], list: &[u8]) -> Result<Text, Refusal>
     ensures { Agrees kind_of (save_plan game.now list.now) None result }
 {
     let Some(history) = read_list(alloc, list)? else {
         return Err(Refusal::BadList);
     };
-    save_history(alloc, game, history.items())
+    save_history::<G>(alloc, game, history.items())
 }

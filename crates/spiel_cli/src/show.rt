@@ -5,7 +5,7 @@ ghost use Rattle.spiel_string.specs.View.{view};
 ghost use Rattle.spiel_cli.specs.Refusal.{kind_of};
 ghost use Rattle.spiel_cli.specs.Show.{facts_of, show_plan};
 
-use crate::named::{load_named, read_game_string};
+use crate::named::{Load, read_game_string};
 use crate::refusal::Refusal;
 use spiel_api::Game;
 use spiel_frac::Text;
@@ -24,10 +24,10 @@ fn show_facts<G: Game>(alloc: Global, game: G, text: &GameText) -> Result<Text, 
 }
 
 /// `show GAME`: what holds of a whole game.
-pub fn show(alloc: Global, game: &[u8]) -> Result<Text, Refusal>
+pub fn show<G: Load>(alloc: Global, game: &[u8]) -> Result<Text, Refusal>
     ensures { Agrees kind_of (show_plan game.now) None result }
 {
     let text = read_game_string(alloc, game)?;
-    let game = load_named(alloc, &text)?;
+    let game = G::load(alloc, &text)?;
     show_facts(alloc, game, &text)
 }

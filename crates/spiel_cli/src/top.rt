@@ -15,6 +15,7 @@ ghost use Rattle.spiel_cli.specs.Run.{Completes, Knows, SaysStatus, TakesFront};
 use crate::answer::answer;
 use crate::writing::write_answer;
 use spiel_io::{Shelf, Sink};
+use spiel_load::Any;
 use std::alloc::Global;
 
 /// Does what the words say: reads from the shelf, writes to `out`, and puts messages to `err`.
@@ -83,6 +84,6 @@ pub fn run<F: Shelf, O: Sink, E: Sink>(
     ensures side_asked { IfSome (F.state shelf.old).files (λ files. ((F.state shelf.new).reading Side).begins
         ≤ ((F.state shelf.old).reading Side).begins + side_asks (plan_of (map string_bytes words.now)) files) }
 {
-    let answer = answer(alloc, words, shelf);
+    let answer = answer::<Any, F>(alloc, words, shelf);
     write_answer(alloc, answer, out, err)
 }

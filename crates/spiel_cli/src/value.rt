@@ -11,6 +11,7 @@ ghost use Rattle.spiel_cli.specs.Policies.{files_in};
 ghost use Rattle.spiel_cli.specs.Value.{value_line, value_lines, case_values, value_plan, values_text};
 
 use crate::case::read_case;
+use crate::named::Load;
 use crate::refusal::Refusal;
 use spiel_frac::{Frac, NoMemory, Text, write_frac, write_number};
 use spiel_io::Shelf;
@@ -79,7 +80,7 @@ fn tree_values(
 }
 
 /// `value GAME POLICY`: what each player gets on average if all play by the policy.
-pub fn values<F: Shelf>(
+pub fn values<G: Load, F: Shelf>(
     alloc: Global,
     shelf: &mut F,
     game: &[u8],
@@ -88,6 +89,6 @@ pub fn values<F: Shelf>(
     ensures follows { Follows kind_of (value_plan game.now policy.now) (F.state shelf.old) (F.state shelf.new) result }
     ensures begins { BeginsAtMost (files_in policy.now) 0 (F.state shelf.old) (F.state shelf.new) }
 {
-    let case = read_case(alloc, shelf, game, policy)?;
+    let case = read_case::<G, F>(alloc, shelf, game, policy)?;
     tree_values(alloc, &case.text, &case.tree, &case.policy)
 }
