@@ -35,6 +35,6 @@ pub trait Load: Game {
 
 impl Load for Any {
     fn load(alloc: Global, text: &GameText) -> Result<Any, Refusal> {
-        spiel_load::load(alloc, text).map_err(Refusal::Loading)
+        spiel_load::load::<Any>(alloc, text).map_err(Refusal::Loading)
     }
 }

@@ -12,3 +12,4 @@ mod transforms;
 pub use fault::LoadFault;
 pub use games::Base;
 pub use loading::{Any, load};
+pub use nesting::Named;

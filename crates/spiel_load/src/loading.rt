@@ -1,15 +1,15 @@
 //! Games by their strings.
-ghost use Rattle.std.specs.Prelude.{◌≡◌, Ok, IfOk, MatchResult};
+ghost use Rattle.std.specs.Prelude.{IfOk};
 ghost use Rattle.spiel_string.specs.View.{view};
 ghost use Rattle.spiel_string.specs.WellFormed.{IsWellFormed};
-ghost use Rattle.spiel_load.specs.Asked.{IsComputed};
-ghost use Rattle.spiel_load.specs.Named.{named_game};
+ghost use Rattle.spiel_load.specs.Asked.{ReadsAs};
+ghost use Rattle.spiel_load.specs.Given.{asked_by};
+ghost use Rattle.spiel_load.specs.Named.{named_within};
 
 use crate::asked::Asked;
 use crate::fault::LoadFault;
 use crate::games::Base;
 use crate::nesting::Named;
-use spiel_api::Game;
 use spiel_layers::Layer;
 use spiel_string::GameText;
 use std::alloc::Global;
@@ -17,17 +17,16 @@ use std::alloc::Global;
 /// Every game that a game string names: one of the table, under at most three transforms.
 pub type Any = Layer<Layer<Layer<Base>>>;
 
-/// The game that a game string names, or the first that is wrong with the string. The checks go from
-/// the outermost game inwards. For each game: no game has the name; it is a fourth transform; the game
-/// hasn't the first of these keys in byte order; the value of the first of these keys is out of its
-/// range; the first of the keys that have to be given isn't; then the inner game of a transform; and
+/// The game that a game string names, or the first that is wrong with the string: for the type [`Any`]
+/// under at most three transforms, and for another one under as many as it has room for. The checks go
+/// from the outermost game inwards. For each game: no game has the name; it is one transform too many;
+/// the game hasn't the first of these keys in byte order; the value of the first of these keys is out of
+/// its range; the first of the keys that have to be given isn't; then the inner game of a transform; and
 /// then whether that can be transformed so.
-pub fn load(alloc: Global, text: &GameText) -> Result<Any, LoadFault>
+pub fn load<G: Named>(alloc: Global, text: &GameText) -> Result<G, LoadFault>
     requires { IsWellFormed (view text.now) }
-    ensures computed { MatchResult result
-        (λ game. named_game (view text.now) ≡ Ok (⟦<Any as Game>⟧.rules game))
-        (IsComputed (named_game (view text.now))) }
-    ensures playable { IfOk result ⟦<Any as Game>⟧.is_game }
+    ensures computed { ReadsAs G.rules (named_within G.room (asked_by (view text.now))) result }
+    ensures playable { IfOk result G.is_game }
 {
-    Named::load(Asked::by(alloc, text))
+    G::load(Asked::by(alloc, text))
 }

@@ -36,14 +36,14 @@ text_printed text = record {
   ascii = All-from_recursion IsPrinted (printed text) (each_printed (take 64 text));
 }
 
-name_printed : (text : List ℕ) (number : ℕ) → number < most_pays → IsPrintable 128 (strategy_name text number)
+pub name_printed : (text : List ℕ) (number : ℕ) → number < most_pays → IsPrintable 128 (strategy_name text number)
 name_printed [] number l =
     let name = decimal_printable 7 (number + 1) (omega arith) (omega arith) (omega arith) in
     record { short = omega (arith, name.short); ascii = name.ascii }
 name_printed (byte ∷ text) number l = text_printed (byte ∷ text)
 
 -- ---- the cap
-greatest_low : (sizes : List ℕ) → 1 ≤ greatest sizes
+pub greatest_low : (sizes : List ℕ) → 1 ≤ greatest sizes
 greatest_low [] = omega arith
 greatest_low (size ∷ sizes) = let later = greatest_low sizes in omega arith
 

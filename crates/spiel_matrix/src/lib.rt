@@ -13,4 +13,6 @@ mod shape;
 pub use fault::MatrixFault;
 pub use matrix::Matrix;
 pub use named::Kind;
+pub use names::push_strategy;
 pub use parts::MatrixParts;
+pub use pays::{common_unit, greatest_size, pays_in};

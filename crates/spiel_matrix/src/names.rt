@@ -28,7 +28,7 @@ fn push_printed(text: &[u8], out: &mut Text) -> Result<(), NoMemory>
 }
 
 /// Adds the name of a strategy, or where it is empty the number of the strategy, counted from 1.
-pub(crate) fn push_strategy(name: &[u8], number: u32, out: &mut Text) -> Result<(), NoMemory>
+pub fn push_strategy(name: &[u8], number: u32, out: &mut Text) -> Result<(), NoMemory>
     requires { number < most_pays }
     ensures { Adds result out.old out.new (strategy_name name.now number) }
 {

@@ -19,7 +19,7 @@ fn den_of(pay: Frac) -> u128
 }
 
 /// The least common denominator, unless it passes 2^62.
-pub(crate) fn common_unit(pays: &[Frac]) -> Option<u64>
+pub fn common_unit(pays: &[Frac]) -> Option<u64>
     ensures value { result ≡ small_unit (common_unit pays.now) }
     ensures positive { 0 < common_unit pays.now }
 {
@@ -57,7 +57,7 @@ fn in_parts(unit: u64, pay: Frac) -> Option<i64>
 }
 
 /// All pays in parts of 1/unit. `PayTooFine` comes where the size of one of them passes 2^62.
-pub(crate) fn pays_in(alloc: Global, unit: u64, pays: &[Frac]) -> Result<List<i64>, MatrixFault>
+pub fn pays_in(alloc: Global, unit: u64, pays: &[Frac]) -> Result<List<i64>, MatrixFault>
     ensures pays { IfOk result (λ parts. parts ≡ map (in_parts unit) pays.now) }
     ensures fault { MatchResult result (λ parts. are_small unit pays.now ≡ true) (IsTooFine unit pays.now) }
 {
@@ -72,7 +72,7 @@ pub(crate) fn pays_in(alloc: Global, unit: u64, pays: &[Frac]) -> Result<List<i6
 }
 
 /// The greatest size of a pay, and 1 at least.
-pub(crate) fn greatest_size(pays: &[i64]) -> u64
+pub fn greatest_size(pays: &[i64]) -> u64
     ensures { result ≡ greatest (map nat_abs pays.now) }
 {
     let mut greatest = 1u64;

@@ -1,12 +1,11 @@
 -- The answer that is computed is the one that the grammar tells, and no other.
-use Rattle.std.proofs.Common.{◌≡◌, ◌<◌, ◌≤◌, ◌+◌, ◌-◌, ℕ, zero, suc, Bool, true, false, List, [], ◌∷◌, ◌++◌, length, take, get_or, refl, sym, ◌∙◌, ap, Option, Some, None, Result, Ok, Err, ◌⊎◌, inl, inr, subst, arith}
-use Rattle.std.specs.Prelude.{nat_lt, if◌then◌else◌, option_and_then, MatchResult, IfOk, IfErr, OnErr}
+use Rattle.std.proofs.Common.{◌≡◌, ◌<◌, ◌≤◌, ◌+◌, ℕ, zero, suc, Bool, true, false, List, [], ◌∷◌, ◌++◌, length, take, get_or, refl, sym, ◌∙◌, ap, Option, Some, None, Result, Ok, Err, subst, arith}
+use Rattle.std.specs.Prelude.{nat_lt, if◌then◌else◌, option_and_then, MatchResult, IfOk, IfErr}
 use Rattle.std.specs.List.{All, list_any}
 use Rattle.std.proofs.lemmas.List.Elements.{All-nil, All-cons, All-append, All-weaker, All-head}
 use Rattle.std.specs.Str.{bytes_eq}
 use Rattle.std.proofs.lemmas.Bool.{ltb-true, ltb-false}
 use Rattle.std.proofs.lemmas.List.{length-append}
-use Rattle.std.proofs.Math.Seq.{take-length}
 use Rattle.spiel_string.specs.Alphabet.{spaces}
 use Rattle.spiel_string.specs.Answer.{or_stuck, follow, once, game_in, ended, followed, reading, IsAnswer, IsComputed}
 use Rattle.spiel_string.specs.Game.{Game}

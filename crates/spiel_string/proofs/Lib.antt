@@ -21,3 +21,7 @@ pub mod ReadBack
 pub mod OneAnswer
 pub mod WellRead
 pub mod Answered
+pub mod TokenSteps
+pub mod TokenPlaces
+pub mod Quoted
+pub mod Pieces

@@ -1,6 +1,6 @@
 -- What reading a text answers, as a function: it gives the one value or the one first fault that
 -- Reading.antt tells by the grammar.
-use Rattle.std.specs.Prelude.{◌≡◌, ℕ, zero, suc, ◌-◌, nat_lt, List, [], ◌∷◌, length, Option, Some, None, Result, Ok, Err, if◌then◌else◌, ⊤}
+use Rattle.std.specs.Prelude.{◌≡◌, ℕ, suc, ◌-◌, nat_lt, List, [], ◌∷◌, length, Option, Some, None, Result, Ok, Err, if◌then◌else◌, ⊤}
 use Rattle.spiel_string.specs.Game.{Game}
 use Rattle.spiel_string.specs.Grammar.{Whole}
 use Rattle.spiel_string.specs.Nesting.{nesting}

@@ -1,6 +1,7 @@
 pub mod Alphabet
 pub mod Answer
 pub mod Canonical
+pub mod Cutting
 pub mod Faults
 pub mod Game
 pub mod Grammar
@@ -9,12 +10,15 @@ pub mod Kept
 pub mod Modes
 pub mod Nesting
 pub mod Partial
+pub mod Pieces
 pub mod Progress
+pub mod Quoting
 pub mod Reading
 pub mod Repeats
 pub mod Scan
 pub mod Sorted
 pub mod Stands
+pub mod Tokens
 pub mod Tracking
 pub mod Values
 pub mod View

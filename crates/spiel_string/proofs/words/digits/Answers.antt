@@ -1,4 +1,4 @@
-use Rattle.std.proofs.Common.{◌≡◌, true, rules, subst, arith}
+use Rattle.std.proofs.Common.{◌≡◌, true, rules, arith}
 use Rattle.spiel_string.specs.Values.{are_digits}
 use Rattle.spiel_string.proofs.Digits.{are_digits-parts, digits_found, digits_small}
 use Rattle.spiel_string.proofs.words.digits.Goals as goal
