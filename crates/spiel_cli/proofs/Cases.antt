@@ -3,14 +3,12 @@ use Rattle.std.proofs.Common.{◌≡◌, ℕ, Bool, true, false, List, refl, sym
 use Rattle.std.specs.Prelude.{Option, Some, None, Result, Ok, Err, if◌then◌else◌}
 use Rattle.std.specs.Result.{IsErr, IsErrAnd}
 use Rattle.spiel_io.specs.Outside.{ShelfState}
-use Rattle.spiel_io.specs.Plan.{Plan, Give, Refuse, ◌>>=◌, Agrees, AsksNothing, Follows, IsRefusal}
-use Rattle.spiel_io.proofs.Plan.{follows_agrees, follows_memory, follows_refuse, follows_stop, follows_then}
+use Rattle.spiel_io.specs.Plan.{Plan, Give, Refuse, ◌>>=◌, Agrees, AsksNothing, Follows, IsRefusal, seeing, unless}
+use Rattle.spiel_io.proofs.Plan.{follows_agrees, follows_handed_on, follows_memory, follows_refuse, follows_stop, follows_then}
 use Rattle.spiel_tree.specs.declared.tree.TreeFault.{TreeFault}
 use Rattle.spiel_tree.specs.declared.tree.TreeFault.TheVariants as tree
 use Rattle.spiel_tree.specs.Trees.{IsComputed, Whole, tree_fault, tree_of}
-use Rattle.spiel_policy.specs.Profiles.{Profile}
 use Rattle.spiel_cli.specs.Case.{Case, case_of, case_plan, game_case, history_limit, policy_case}
-use Rattle.spiel_cli.specs.Deciding.{seeing, unless}
 use Rattle.spiel_cli.specs.Named.{NamedGame}
 use Rattle.spiel_cli.specs.Policies.{chosen}
 use Rattle.spiel_cli.specs.Refusal.{kind_of}
@@ -36,6 +34,13 @@ pub case_then : (game policy : List ℕ) (next : Case → Plan (List ℕ) Refusa
 case_then game policy next quiet old new case r h k =
     follows_then kind_of (case_plan game policy) next old new new (case_of case) r h (follows_agrees kind_of (next (case_of case)) new r k (quiet (case_of case)))
 
+-- no case was read
+pub case_refused : (game policy : List ℕ) (next : Case → Plan (List ℕ) Refusal) (old new : ShelfState) (e : Refusal) (r : Result (List ℕ) Refusal)
+    → Follows {A = Case} kind_of (case_plan game policy) old new (Err e) → IsErr r × IsErrAnd r (λ x. x ≡ e) → Follows kind_of (case_plan game policy >>= next) old new r
+case_refused game policy next old new e (Ok text) h same = absurd same.1
+case_refused game policy next old new e (Err x) h same =
+    follows_stop kind_of (case_plan game policy) next old new x (subst (λ (y : Refusal). Follows {A = Case} kind_of (case_plan game policy) old new (Err y)) (sym same.1) h)
+
 -- ---- the policy, after the tree
 game_follows : (policy : List ℕ) (game : NamedGame) (tree : Whole) (old new : ShelfState) (r : Result Case Refusal) → tree ≡ tree_of game.rules → tree_fault game.rules history_limit ≡ None
     → Follows kind_of (policy_case policy game.text tree) old new r → Follows kind_of (game_case policy game) old new r
@@ -46,11 +51,10 @@ game_follows policy game tree old new r is none h =
 pub policy_stop : (policy : List ℕ) (game : NamedGame) (tree : Whole) (old new : ShelfState) (e : Refusal) (r : Result CodeCase Refusal) → tree ≡ tree_of game.rules
     → tree_fault game.rules history_limit ≡ None → Follows kind_of (chosen policy tree) old new (Err e) → IsErr r × IsErrAnd r (λ x. x ≡ e)
     → Follows kind_of (game_case policy game) old new (seeing case_of r)
-policy_stop policy game tree old new e (Ok case) is none h same = absurd same.1
-policy_stop policy game tree old new e (Err x) is none h same =
-    game_follows policy game tree old new (Err x) is none
-    (follows_stop kind_of (chosen policy tree) (λ profile. Give (record { text = game.text; judged = record { tree = tree; profile = profile } })) old new x
-    (subst (λ (y : Refusal). Follows {A = Profile} kind_of (chosen policy tree) old new (Err y)) (sym same.1) h))
+policy_stop policy game tree old new e r is none h same =
+    game_follows policy game tree old new (seeing case_of r) is none
+    (follows_handed_on kind_of case_of (policy_case policy game.text tree) old new e r
+    (follows_stop kind_of (chosen policy tree) (λ profile. Give (record { text = game.text; judged = record { tree = tree; profile = profile } })) old new e h) same)
 
 -- ---- the game can't be judged
 refused : (policy : List ℕ) (game : NamedGame) (s : ShelfState) (fault : TreeFault) → kind_of (Tree fault) ≡ IsRefusal → tree_fault game.rules history_limit ≡ Some fault

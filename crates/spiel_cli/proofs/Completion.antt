@@ -19,7 +19,7 @@ append_none None = refl
 append_none (Some bytes) = ap (λ x. Some x) (append-nil bytes)
 
 module _ {A E : Type 0} where
-  reaches_decided : (plan : Plan A E) (files : Files) (r : Result A E) → Reaches plan (Some files) r → decided plan files ≡ Some r
+  pub reaches_decided : (plan : Plan A E) (files : Files) (r : Result A E) → Reaches plan (Some files) r → decided plan files ≡ Some r
   reaches_decided (Give a) files r h = ap (λ x. Some x) (sym h)
   reaches_decided (Refuse e) files r h = ap (λ x. Some x) (sym h)
   reaches_decided (Ask slot name rest) files r h =

@@ -5,9 +5,9 @@ use Rattle.std.specs.Prelude.{IfOk, IfSome, OnOk, pos, ◌<ℤ◌, ◌≤ℤ◌,
 use Rattle.std.specs.Option.{option_and_then}
 use Rattle.std.specs.Io.KnownBytes.{append_known}
 use Rattle.spiel_io.specs.Outside.{Files, SinkState, held}
-use Rattle.spiel_io.specs.Plan.{Plan, Give, Refuse, Ask, ◌>>=◌, Reaches, decided}
+use Rattle.spiel_io.specs.Plan.{Plan, Give, Refuse, Ask, ◌>>=◌, Reaches, decided, decide, unless, refusing}
 use Rattle.spiel_io.specs.declared.calls.FetchFault.TheVariants.{TooLong}
-use Rattle.spiel_io.proofs.Reached.{quiet_first}
+use Rattle.spiel_io.proofs.Reached.{quiet_first, reaches_refusing}
 use Rattle.spiel_api.specs.Rules.{Rules}
 use Rattle.spiel_string.specs.Answer.{reading}
 use Rattle.spiel_string.specs.Game.{Game}
@@ -25,7 +25,7 @@ use Rattle.spiel_words.specs.declared.command.Command.{Command}
 use Rattle.spiel_words.specs.declared.command.Command.TheVariants.{Judge}
 use Rattle.spiel_words.specs.Verbs.{command_of}
 use Rattle.spiel_cli.specs.Case.{Case, case_of, case_plan, game_case, history_limit, policy_case}
-use Rattle.spiel_cli.specs.Deciding.{decide, file_limit, named_file, unless}
+use Rattle.spiel_cli.specs.Files.{file_limit, named_file}
 use Rattle.spiel_cli.specs.Judgement.{AreOfCase, HasJudged, IsAnswered, IsOfGame, IsReport, IsReportBy, IsRight, IsSaidBy, Judges}
 use Rattle.spiel_cli.specs.Named.{NamedGame, with_rules}
 use Rattle.spiel_cli.specs.Outcome.{outcome_of, plan_by, plan_of}
@@ -37,7 +37,7 @@ use Rattle.spiel_cli.specs.declared.case.Case.{Case as CodeCase}
 use Rattle.spiel_cli.specs.declared.policies.NamedPolicy.{NamedPolicy}
 use Rattle.spiel_cli.specs.declared.refusal.Refusal.{Refusal}
 use Rattle.spiel_cli.specs.declared.refusal.Refusal.TheVariants.{File, GameString, Judging, Loading, PolicyFile, Tree}
-use Rattle.spiel_cli.proofs.Completion.{known_decided}
+use Rattle.spiel_cli.proofs.Completion.{known_decided, reaches_decided}
 use Rattle.spiel_cli.proofs.Refusals.{refusal_said}
 
 -- ---- what was given, of what is reached
@@ -46,19 +46,19 @@ decide_gave {A = A} refusal (Ok x) told a h = let same : x ≡ a = cc in ap (λ 
 decide_gave refusal (Err f) told a h = let no : ⊥ = cc in absurd no
 
 -- the tree is that of the game of the word
-pub game_given : (word : List ℕ) (text : Game) (rules : Rules) (r : Result CodeCase Refusal) → reading word ≡ Ok text → named_game text ≡ Ok rules → IfOk r (λ case. view case.text ≡ text)
-    → IfOk r (λ case. tree_fault rules history_limit ≡ None) → IfOk r (λ case. case.tree ≡ tree_of rules) → IfOk r (λ case. IsOfGame word (case_of case))
-game_given word text rules (Ok case) reads named same judgeable tree = record {
+pub game_given : (word : List ℕ) (text : Game) (rules : Rules) (told : Option Files) (r : Result CodeCase Refusal) → reading word ≡ Ok text → Reaches (named_game text) told (Ok rules) → IfOk r (λ case. view case.text ≡ text)
+    → IfOk r (λ case. tree_fault rules history_limit ≡ None) → IfOk r (λ case. case.tree ≡ tree_of rules) → IfOk r (λ case. IsOfGame word told (case_of case))
+game_given word text rules told (Ok case) reads named same judgeable tree = record {
   rules = rules;
   reads = subst (λ t. reading word ≡ Ok t) (sym same) reads;
-  named = subst (λ t. named_game t ≡ Ok rules) (sym same) named;
+  named = subst (λ t. Reaches (named_game t) told (Ok rules)) (sym same) named;
   judgeable = judgeable;
   tree = tree;
 }
-game_given word text rules (Err e) reads named same judgeable tree = tt
+game_given word text rules told (Err e) reads named same judgeable tree = tt
 
 -- the report on the case that was read
-pub report_given : (game policy : List ℕ) (brief : Bool) (told : Option Files) (case : CodeCase) (r : Result (List ℕ) Refusal) → IsOfGame game (case_of case) → Reaches (case_plan game policy) told (Ok (case_of case))
+pub report_given : (game policy : List ℕ) (brief : Bool) (told : Option Files) (case : CodeCase) (r : Result (List ℕ) Refusal) → IsOfGame game told (case_of case) → Reaches (case_plan game policy) told (Ok (case_of case))
     → Fits case.tree case.policy → IfOk r (λ text. text ≡ report_text brief (case_of case)) → IfOk r (λ text. IsRight (case_of case).judged) → IfOk r (IsReport game policy brief told)
 report_given game policy brief told case (Ok done) of_game comes complete is right = record { case = case_of case; of_game = of_game; comes = comes; complete = complete; is = is; right = right }
 report_given game policy brief told case (Err e) of_game comes complete is right = tt
@@ -137,7 +137,8 @@ case_decided game policy files case h =
     subst (λ (o : Option TreeFault). decided (unless Tree o (policy_case policy case.text (tree_of rules))) files ≡ Some (Ok case)) (sym h.of_game.judgeable)
     (subst (λ (t : Whole). decided (policy_case policy case.text t) files ≡ Some (Ok case)) h.of_game.tree last) in
     let of_rules : decided (with_rules case.text (game_case policy)) files ≡ Some (Ok case) =
-    decided_then _ files (decide Loading (named_game case.text)) rules (decided_given Loading (named_game case.text) files rules h.of_game.named) ∙ of_tree_decided in
+    decided_then _ files (refusing Loading (named_game case.text)) rules
+    (reaches_decided (refusing Loading (named_game case.text)) files (Ok rules) (reaches_refusing Loading (named_game case.text) (Some files) (Ok rules) h.of_game.named)) ∙ of_tree_decided in
     decided_then _ files (decide GameString (reading game)) case.text (decided_given GameString (reading game) files case.text h.of_game.reads) ∙ of_rules
 
 report_decided : (brief : Bool) (files : Files) (case : Case) → numbers_fit case.judged ≡ true → decided (case_report brief case) files ≡ Some (Ok (report_text brief case))

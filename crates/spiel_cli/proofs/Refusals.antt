@@ -1,9 +1,13 @@
 -- What is said of a refusal, and what it is, by its status.
 use Rattle.std.proofs.Common.{◌≡◌, ℕ, ◌<◌, ◌≤◌, ◌⊎◌, inl, inr, Bool, true, false, ◌==◌, eqb-true, List, refl, arith}
-use Rattle.std.specs.Prelude.{codes, if◌then◌else◌}
-use Rattle.spiel_io.specs.Plan.{IsRead, IsMemory, IsRefusal, CausedAt}
+use Rattle.std.specs.Prelude.{Ok, Err, codes, if◌then◌else◌}
+use Rattle.spiel_io.specs.Outside.{ShelfState}
+use Rattle.spiel_io.specs.Plan.{IsRead, IsMemory, IsRefusal, CausedAt, Follows, Plan, refusing}
+use Rattle.spiel_io.proofs.Plan.{follows_refusing}
+use Rattle.spiel_api.specs.Rules.{Rules}
 use Rattle.spiel_io.specs.declared.calls.FetchFault.TheVariants as file
 use Rattle.spiel_words.specs.declared.fault.WordsFault.TheVariants as words
+use Rattle.spiel_efg.specs.declared.read_fault.EfgFault.TheVariants as efg
 use Rattle.spiel_string.specs.declared.fault.StringFault.TheVariants as string
 use Rattle.spiel_load.specs.declared.fault.LoadFault.TheVariants as load
 use Rattle.spiel_save.specs.declared.fault.SavedFault.TheVariants as saved
@@ -11,9 +15,11 @@ use Rattle.spiel_api.specs.declared.walking.WalkFault.TheVariants as walk
 use Rattle.spiel_tree.specs.declared.tree.TreeFault.TheVariants as tree
 use Rattle.spiel_policy.specs.declared.fault.PolicyFault.TheVariants as policy
 use Rattle.spiel_response.specs.declared.fault.JudgeFault.TheVariants as judging
-use Rattle.spiel_cli.specs.Refusal.{kind_at, reason_of, status_of}
+use Rattle.spiel_load.specs.Faults.{load_kind}
+use Rattle.spiel_load.specs.declared.fault.LoadFault.{LoadFault}
+use Rattle.spiel_cli.specs.Refusal.{kind_at, kind_of, reason_of, status_of}
 use Rattle.spiel_cli.specs.declared.refusal.Refusal.{Refusal}
-use Rattle.spiel_cli.specs.declared.refusal.Refusal.TheVariants.{Words, BadList, File, GameString, Loading, SavedFile, Walk, Tree, PolicyFile, Judging, NoMemory}
+use Rattle.spiel_cli.specs.declared.refusal.Refusal.TheVariants.{Words, BadList, File, GameString, Loading, Efg, SavedFile, Walk, Tree, PolicyFile, Judging, NoMemory}
 
 -- the status is one of a refusal, and these statuses have one text each
 pub record IsSaidAt (status : ℕ) (reason : List ℕ) : Type 0 where
@@ -67,9 +73,23 @@ refusal_said (Loading (load.UnknownGame name)) = bad _
 refusal_said (Loading load.TooDeep) = bad _
 refusal_said (Loading (load.UnknownParam name key)) = bad _
 refusal_said (Loading (load.BadParam name key)) = bad _
+refusal_said (Loading (load.File file.Read)) = read
+refusal_said (Loading (load.File file.TooLong)) = bad _
+refusal_said (Loading (load.File file.NoMemory)) = bad _
+refusal_said (Loading (load.Efg fault)) = bad _
 refusal_said (Loading (load.Repeat fault)) = bad _
 refusal_said (Loading (load.Start fault)) = bad _
 refusal_said (Loading load.NoMemory) = memory
+refusal_said (Efg (efg.Token at)) = bad _
+refusal_said (Efg (efg.Grammar token)) = bad _
+refusal_said (Efg efg.Players) = bad _
+refusal_said (Efg (efg.SetClash node)) = bad _
+refusal_said (Efg (efg.ChanceSum node)) = bad _
+refusal_said (Efg (efg.ChanceTooFine node)) = bad _
+refusal_said (Efg (efg.OutcomeClash node)) = bad _
+refusal_said (Efg efg.TooLarge) = bad _
+refusal_said (Efg efg.PayTooFine) = bad _
+refusal_said (Efg efg.NoMemory) = memory
 refusal_said (SavedFile saved.Header) = bad _
 refusal_said (SavedFile (saved.Game fault)) = bad _
 refusal_said (SavedFile (saved.Number line)) = bad _
@@ -113,3 +133,25 @@ kind_seen status before now c more = by (status == 8) refl (status == 3) refl c
     by true e d f c = inr (eqb-true status 8 e)
     by false e true f c = inl (eqb-true status 3 f)
     by false e false f c = absurd (omega (arith, c, more))
+
+-- a fault of loading is of its own kind
+load_kind_kept : (fault : LoadFault) → load_kind fault ≡ kind_of (Loading fault)
+load_kind_kept (load.UnknownGame name) = refl
+load_kind_kept load.TooDeep = refl
+load_kind_kept (load.UnknownParam name key) = refl
+load_kind_kept (load.BadParam name key) = refl
+load_kind_kept (load.File file.Read) = refl
+load_kind_kept (load.File file.TooLong) = refl
+load_kind_kept (load.File file.NoMemory) = refl
+load_kind_kept (load.Efg fault) = refl
+load_kind_kept (load.Repeat fault) = refl
+load_kind_kept (load.Start fault) = refl
+load_kind_kept load.NoMemory = refl
+
+-- a call that follows a plan of loading, with its faults as refusals
+module _ (plan : Plan Rules LoadFault) (old new : ShelfState) where
+  pub game_loaded : (rules : Rules) → Follows load_kind plan old new (Ok rules) → Follows kind_of (refusing Loading plan) old new (Ok rules)
+  game_loaded rules h = follows_refusing Loading load_kind kind_of load_kind_kept plan old new (Ok rules) h
+
+  pub loading_refused : (fault : LoadFault) → Follows load_kind plan old new (Err fault) → Follows kind_of (refusing Loading plan) old new (Err (Loading fault))
+  loading_refused fault h = follows_refusing Loading load_kind kind_of load_kind_kept plan old new (Err fault) h

@@ -1,12 +1,11 @@
 -- A game and a policy for it, which commands judge.
 use Rattle.std.specs.Prelude.{ℕ, List}
-use Rattle.spiel_io.specs.Plan.{Plan, Give, ◌>>=◌}
+use Rattle.spiel_io.specs.Plan.{Plan, Give, ◌>>=◌, unless}
 use Rattle.spiel_api.specs.Rules.{Rules}
 use Rattle.spiel_string.specs.Game.{Game}
 use Rattle.spiel_string.specs.View.{view}
 use Rattle.spiel_tree.specs.Trees.{Whole, tree_fault, tree_of}
 use Rattle.spiel_response.specs.Values.{Judged}
-use Rattle.spiel_cli.specs.Deciding.{unless}
 use Rattle.spiel_cli.specs.Named.{NamedGame, with_game}
 use Rattle.spiel_cli.specs.Policies.{chosen}
 use Rattle.spiel_cli.specs.declared.case.Case.{Case as CodeCase}

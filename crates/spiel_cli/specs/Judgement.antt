@@ -16,18 +16,19 @@ use Rattle.spiel_response.specs.Values.{Judged, NumbersFit, denominator_of}
 use Rattle.spiel_words.specs.declared.command.Command.{Command}
 use Rattle.spiel_words.specs.declared.command.Command.TheVariants.{Judge}
 use Rattle.spiel_cli.specs.Case.{Case, case_plan, history_limit}
-use Rattle.spiel_cli.specs.Deciding.{file_limit}
+use Rattle.spiel_cli.specs.Files.{file_limit}
 use Rattle.spiel_cli.specs.Policies.{name_of, profile_of}
 use Rattle.spiel_cli.specs.Reports.{report_text}
 use Rattle.spiel_cli.specs.declared.policies.NamedPolicy.{NamedPolicy}
 
 -- ---- of which game and policy
--- The word is a game string that names a game. The game has no more histories than the limit, perfect recall, one list of
--- numbers for each information state, and nobody who chooses at once with others. The case has its tree.
-pub record IsOfGame (word : List ℕ) (case : Case) : Type 0 where
+-- The word is a game string that names a game, by a file of these if the string names one. The game has no more histories than
+-- the limit, perfect recall, one list of numbers for each information state, and nobody who chooses at once with others. The
+-- case has its tree.
+pub record IsOfGame (word : List ℕ) (told : Option Files) (case : Case) : Type 0 where
   pub rules : Rules
   pub reads : reading word ≡ Ok case.text
-  pub named : named_game case.text ≡ Ok rules
+  pub named : Reaches (named_game case.text) told (Ok rules)
   pub judgeable : tree_fault rules history_limit ≡ None
   pub tree : case.judged.tree ≡ tree_of rules
 
@@ -49,7 +50,7 @@ IsSaid word = IsSaidBy (name_of word) word
 
 -- two words, over these files: a game that can be judged, and a complete policy for it
 pub record AreOfCase (game policy : List ℕ) (files : Files) (case : Case) : Type 0 where
-  pub of_game : IsOfGame game case
+  pub of_game : IsOfGame game (Some files) case
   pub of_policy : IsSaid policy files case.judged.tree case.judged.profile
 
 -- ---- what the numbers are
@@ -71,11 +72,11 @@ pub record IsRight (j : Judged) : Type 0 where
   pub gap : pos 0 ≤ℤ nash_conv_of j
 
 -- ---- what is given
--- What `judge` gives: the report on a game that can be judged and a complete policy for it. The game is that of the word, and
--- over the files that are told so is the policy.
+-- What `judge` gives: the report on a game that can be judged and a complete policy for it. Over the files that are told both
+-- are those of the words; a game that stands in no file is so in any case.
 pub record IsReport (game policy : List ℕ) (brief : Bool) (told : Option Files) (text : List ℕ) : Type 0 where
   pub case : Case
-  pub of_game : IsOfGame game case
+  pub of_game : IsOfGame game told case
   pub comes : Reaches (case_plan game policy) told (Ok case)
   pub complete : Fits case.judged.tree case.judged.profile
   pub is : text ≡ report_text brief case
@@ -93,11 +94,11 @@ pub record Judges (brief : Bool) (case : Case) (out out' err err' : SinkState) :
   pub silent : err'.taken ≡ err.taken
   pub right : IsRight case.judged
 
--- The report on some case was printed. The game is that of the word, the policy is complete, and over the files that are told
--- it is that of the word.
+-- The report on some case was printed. The policy is complete, and over the files that are told game and policy are those of
+-- the words; a game that stands in no file is so in any case.
 pub record HasJudged (game policy : List ℕ) (brief : Bool) (told : Option Files) (out out' err err' : SinkState) : Type 0 where
   pub case : Case
-  pub of_game : IsOfGame game case
+  pub of_game : IsOfGame game told case
   pub comes : Reaches (case_plan game policy) told (Ok case)
   pub complete : Fits case.judged.tree case.judged.profile
   pub judges : Judges brief case out out' err err'

@@ -1,9 +1,8 @@
 -- What showing what may be chosen decides.
 use Rattle.std.specs.Prelude.{ℕ, List}
-use Rattle.spiel_io.specs.Plan.{Plan, Give}
+use Rattle.spiel_io.specs.Plan.{Plan, Give, unless}
 use Rattle.spiel_api.specs.Walks.{walk_fault}
 use Rattle.spiel_play.specs.Block.{legal_text}
-use Rattle.spiel_cli.specs.Deciding.{unless}
 use Rattle.spiel_cli.specs.Lists.{list_of}
 use Rattle.spiel_cli.specs.Named.{NamedGame, with_game}
 use Rattle.spiel_cli.specs.Save.{with_list}

@@ -1,5 +1,5 @@
 pub mod Case
-pub mod Deciding
+pub mod Files
 pub mod Judgement
 pub mod Legal
 pub mod Lists
@@ -13,4 +13,5 @@ pub mod Restore
 pub mod Run
 pub mod Save
 pub mod Show
+pub mod Tidy
 pub mod Value

@@ -11,11 +11,12 @@ use Rattle.spiel_cli.specs.Reports.{judge_plan}
 use Rattle.spiel_cli.specs.Restore.{restore_plan}
 use Rattle.spiel_cli.specs.Save.{save_plan}
 use Rattle.spiel_cli.specs.Show.{show_plan}
+use Rattle.spiel_cli.specs.Tidy.{tidy_plan}
 use Rattle.spiel_cli.specs.Value.{value_plan}
 use Rattle.spiel_words.specs.Verbs.{command_of}
 use Rattle.spiel_words.specs.declared.command.Command.{Command}
 use Rattle.spiel_words.specs.declared.fault.WordsFault.TheVariants.{Usage}
-use Rattle.spiel_words.specs.declared.command.Command.TheVariants.{Judge, Legal, Policy, Restore, Save, Show, Value}
+use Rattle.spiel_words.specs.declared.command.Command.TheVariants.{Judge, Legal, Policy, Restore, Save, Show, Tidy, Value}
 use Rattle.spiel_cli.specs.declared.refusal.Refusal.{Refusal}
 use Rattle.spiel_cli.specs.declared.refusal.Refusal.TheVariants.{Words, File}
 
@@ -25,6 +26,7 @@ command_plan (Restore file) = restore_plan file
 command_plan (Save game list) = save_plan game list
 command_plan (Legal game list) = legal_plan game list
 command_plan (Show game) = show_plan game
+command_plan (Tidy file) = tidy_plan file
 command_plan (Value game policy) = value_plan game policy
 command_plan (Policy game policy) = policy_plan game policy
 command_plan (Judge game policy brief) = judge_plan game policy brief
@@ -43,6 +45,7 @@ command_names (Restore file) = 1
 command_names (Save game list) = 0
 command_names (Legal game list) = 0
 command_names (Show game) = 0
+command_names (Tidy file) = 1
 command_names (Value game policy) = files_in policy
 command_names (Policy game policy) = files_in policy
 command_names (Judge game policy brief) = files_in policy

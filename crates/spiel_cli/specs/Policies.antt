@@ -1,11 +1,11 @@
 -- The policy that a word says: `uniform`, `first`, or the name of a file.
 use Rattle.std.specs.Prelude.{ℕ, List, codes, Option, Some, None, if◌then◌else◌}
 use Rattle.std.specs.Str.{bytes_eq}
-use Rattle.spiel_io.specs.Plan.{Plan, Give, ◌>>=◌}
+use Rattle.spiel_io.specs.Plan.{Plan, Give, ◌>>=◌, decide}
 use Rattle.spiel_tree.specs.Trees.{Whole}
 use Rattle.spiel_policy.specs.Profiles.{Profile, first_profile, uniform_profile}
 use Rattle.spiel_policy.specs.Reading.{policy_of}
-use Rattle.spiel_cli.specs.Deciding.{decide, named_file}
+use Rattle.spiel_cli.specs.Files.{named_file}
 use Rattle.spiel_cli.specs.declared.policies.NamedPolicy.{NamedPolicy}
 use Rattle.spiel_cli.specs.declared.policies.NamedPolicy.TheVariants.{First, Uniform}
 use Rattle.spiel_cli.specs.declared.refusal.Refusal.{Refusal}

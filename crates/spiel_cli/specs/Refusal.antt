@@ -5,6 +5,8 @@ use Rattle.spiel_words.specs.declared.fault.WordsFault.TheVariants as words
 use Rattle.spiel_io.specs.FaultTexts as of_files
 use Rattle.spiel_io.specs.Plan.{Kind, IsRead, IsMemory, IsRefusal}
 use Rattle.spiel_io.specs.declared.calls.FetchFault.TheVariants as file
+use Rattle.spiel_efg.specs.Faults as of_efg
+use Rattle.spiel_efg.specs.declared.read_fault.EfgFault.TheVariants as efg
 use Rattle.spiel_string.specs.Faults as of_strings
 use Rattle.spiel_string.specs.declared.fault.StringFault.TheVariants as string
 use Rattle.spiel_load.specs.Faults as of_loading
@@ -20,7 +22,7 @@ use Rattle.spiel_policy.specs.declared.fault.PolicyFault.TheVariants as policy
 use Rattle.spiel_response.specs.FaultTexts as of_judging
 use Rattle.spiel_response.specs.declared.fault.JudgeFault.TheVariants as judging
 use Rattle.spiel_cli.specs.declared.refusal.Refusal.{Refusal}
-use Rattle.spiel_cli.specs.declared.refusal.Refusal.TheVariants.{Words, BadList, File, GameString, Loading, SavedFile, Walk, Tree, PolicyFile, Judging, NoMemory}
+use Rattle.spiel_cli.specs.declared.refusal.Refusal.TheVariants.{Words, BadList, File, GameString, Loading, Efg, SavedFile, Walk, Tree, PolicyFile, Judging, NoMemory}
 
 -- the exit status: want of memory has one of its own, whichever call tells it
 abbrev pub status_of : Refusal → ℕ
@@ -33,7 +35,10 @@ status_of (File file.NoMemory) = 8
 status_of (GameString string.NoMemory) = 8
 status_of (GameString fault) = 4
 status_of (Loading load.NoMemory) = 8
+status_of (Loading (load.File file.Read)) = 3
 status_of (Loading fault) = 4
+status_of (Efg efg.NoMemory) = 8
+status_of (Efg fault) = 4
 status_of (SavedFile saved.NoMemory) = 8
 status_of (SavedFile fault) = 4
 status_of (Walk walk.NoMemory) = 8
@@ -64,6 +69,7 @@ reason_of BadList = codes "bad list"
 reason_of (File fault) = of_files.fault_text fault
 reason_of (GameString fault) = of_strings.fault_text fault
 reason_of (Loading fault) = of_loading.fault_text fault
+reason_of (Efg fault) = of_efg.fault_text fault
 reason_of (SavedFile fault) = of_saved_files.fault_text fault
 reason_of (Walk fault) = of_walks.fault_text fault
 reason_of (Tree fault) = of_trees.fault_text fault

@@ -1,13 +1,13 @@
 -- What restoring a saved play decides.
 use Rattle.std.specs.Prelude.{ℕ, List, ◌++◌}
-use Rattle.spiel_io.specs.Plan.{Plan, Give, ◌>>=◌}
+use Rattle.spiel_io.specs.Plan.{Plan, Give, ◌>>=◌, decide, unless}
 use Rattle.spiel_api.specs.Walks.{walk_fault}
 use Rattle.spiel_play.specs.Block.{block_text, ended}
 use Rattle.spiel_play.specs.Facts.{title_line}
 use Rattle.spiel_save.specs.Answer.{Played, reading_saved}
 use Rattle.spiel_save.specs.declared.saved.Saved.{Saved}
 use Rattle.spiel_string.specs.View.{view}
-use Rattle.spiel_cli.specs.Deciding.{decide, named_file, unless}
+use Rattle.spiel_cli.specs.Files.{named_file}
 use Rattle.spiel_cli.specs.Named.{NamedGame, with_rules}
 use Rattle.spiel_cli.specs.declared.refusal.Refusal.{Refusal}
 use Rattle.spiel_cli.specs.declared.refusal.Refusal.TheVariants.{SavedFile, Walk}

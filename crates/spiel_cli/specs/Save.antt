@@ -1,9 +1,8 @@
 -- What saving a play decides.
 use Rattle.std.specs.Prelude.{ℕ, List, Option, Some, None}
-use Rattle.spiel_io.specs.Plan.{Plan, Give, Refuse}
+use Rattle.spiel_io.specs.Plan.{Plan, Give, Refuse, unless}
 use Rattle.spiel_api.specs.Walks.{walk_fault}
 use Rattle.spiel_save.specs.Saved.{saved_text}
-use Rattle.spiel_cli.specs.Deciding.{unless}
 use Rattle.spiel_cli.specs.Lists.{list_of}
 use Rattle.spiel_cli.specs.Named.{NamedGame, with_game}
 use Rattle.spiel_cli.specs.declared.refusal.Refusal.{Refusal}

@@ -14,6 +14,7 @@ use crate::refusal::Refusal;
 use crate::restore::restore;
 use crate::save::save;
 use crate::show::show;
+use crate::tidy::tidy;
 use crate::value::values;
 use spiel_frac::Text;
 use spiel_io::Shelf;
@@ -32,9 +33,10 @@ fn answer_command<G: Load, F: Shelf>(
 {
     match command {
         Command::Restore { file } => restore::<G, F>(alloc, shelf, file.bytes()),
-        Command::Save { game, list } => save::<G>(alloc, game.bytes(), list.bytes()),
-        Command::Legal { game, list } => legal::<G>(alloc, game.bytes(), list.bytes()),
-        Command::Show { game } => show::<G>(alloc, game.bytes()),
+        Command::Save { game, list } => save::<G, F>(alloc, shelf, game.bytes(), list.bytes()),
+        Command::Legal { game, list } => legal::<G, F>(alloc, shelf, game.bytes(), list.bytes()),
+        Command::Show { game } => show::<G, F>(alloc, shelf, game.bytes()),
+        Command::Tidy { file } => tidy(alloc, shelf, file.bytes()),
         Command::Value { game, policy } => values::<G, F>(
             alloc,
             shelf,

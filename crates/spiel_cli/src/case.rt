@@ -1,11 +1,10 @@
 //! Games with policies that are judged.
 ghost use Rattle.std.specs.Prelude.{◌≡◌, IfOk, None};
-ghost use Rattle.spiel_io.specs.Plan.{BeginsAtMost, Follows};
+ghost use Rattle.spiel_io.specs.Plan.{BeginsAtMost, Follows, seeing};
 ghost use Rattle.spiel_policy.specs.Profiles.{Fits};
 ghost use Rattle.spiel_string.specs.View.{view};
 ghost use Rattle.spiel_tree.specs.Trees.{tree_fault, tree_of};
 ghost use Rattle.spiel_cli.specs.Case.{case_of, case_plan, game_case, history_limit};
-ghost use Rattle.spiel_cli.specs.Deciding.{seeing};
 ghost use Rattle.spiel_cli.specs.Judgement.{IsOfGame};
 ghost use Rattle.spiel_cli.specs.Policies.{files_in};
 ghost use Rattle.spiel_cli.specs.Refusal.{kind_of};
@@ -63,11 +62,11 @@ pub fn read_case<G: Load, F: Shelf>(
     policy: &[u8],
 ) -> Result<Case, Refusal>
     ensures follows { Follows kind_of (case_plan game.now policy.now) (F.state shelf.old) (F.state shelf.new) (seeing case_of result) }
-    ensures of_game { IfOk result (λ case. IsOfGame game.now (case_of case)) }
+    ensures of_game { IfOk result (λ case. IsOfGame game.now (F.state shelf.old).files (case_of case)) }
     ensures fits { IfOk result (λ case. Fits case.tree case.policy) }
-    ensures begins { BeginsAtMost (files_in policy.now) 0 (F.state shelf.old) (F.state shelf.new) }
+    ensures begins { BeginsAtMost (files_in policy.now) 1 (F.state shelf.old) (F.state shelf.new) }
 {
     let text = read_game_string(alloc, game)?;
-    let game = G::load(alloc, &text)?;
+    let game = G::load(alloc, shelf, &text)?;
     game_policy(alloc, shelf, game, text, policy)
 }

@@ -1,7 +1,7 @@
 //! Files that words name.
 ghost use Rattle.std.specs.Prelude.{◌≤◌, length, IfOk};
 ghost use Rattle.spiel_io.specs.Plan.{BeginsAtMost, Follows};
-ghost use Rattle.spiel_cli.specs.Deciding.{file_limit, named_file};
+ghost use Rattle.spiel_cli.specs.Files.{file_limit, named_file};
 ghost use Rattle.spiel_cli.specs.Refusal.{kind_of};
 
 use crate::refusal::Refusal;

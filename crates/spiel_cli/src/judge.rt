@@ -47,7 +47,7 @@ pub fn judge<G: Load, F: Shelf>(
 ) -> Result<Text, Refusal>
     ensures follows { Follows kind_of (judge_plan game.now policy.now brief) (F.state shelf.old) (F.state shelf.new) result }
     ensures report { IfOk result (IsReport game.now policy.now brief (F.state shelf.old).files) }
-    ensures begins { BeginsAtMost (files_in policy.now) 0 (F.state shelf.old) (F.state shelf.new) }
+    ensures begins { BeginsAtMost (files_in policy.now) 1 (F.state shelf.old) (F.state shelf.new) }
 {
     let case = read_case::<G, F>(alloc, shelf, game, policy)?;
     tree_report(alloc, &case.text, &case.tree, &case.policy, brief)

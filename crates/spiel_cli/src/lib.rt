@@ -15,6 +15,7 @@ mod reports;
 mod restore;
 mod save;
 mod show;
+mod tidy;
 mod top;
 mod value;
 mod writing;

@@ -4,6 +4,7 @@ ghost use Rattle.spiel_cli.specs.Refusal.{reason_of, status_of};
 ghost use Rattle.spiel_cli.specs.declared.refusal.Refusal.TheVariants.{NoMemory as OutOfMemory};
 
 use spiel_api::WalkFault;
+use spiel_efg::EfgFault;
 use spiel_frac::NoMemory;
 use spiel_io::FetchFault;
 use spiel_load::LoadFault;
@@ -28,6 +29,8 @@ pub enum Refusal {
     GameString(StringFault),
     /// A game string names no game.
     Loading(LoadFault),
+    /// A file holds no extensive game.
+    Efg(EfgFault),
     /// A file is no saved play.
     SavedFile(SavedFault),
     /// The history is no play of the game.
@@ -60,6 +63,7 @@ impl fmt::Display for Refusal {
             Refusal::File(fault) => write!(f, "{fault}"),
             Refusal::GameString(fault) => write!(f, "{fault}"),
             Refusal::Loading(fault) => write!(f, "{fault}"),
+            Refusal::Efg(fault) => write!(f, "{fault}"),
             Refusal::SavedFile(fault) => write!(f, "{fault}"),
             Refusal::Walk(fault) => write!(f, "{fault}"),
             Refusal::Tree(fault) => write!(f, "{fault}"),
@@ -80,18 +84,20 @@ pub fn status(refusal: &Refusal) -> u8
         | Refusal::File(FetchFault::NoMemory)
         | Refusal::GameString(StringFault::NoMemory)
         | Refusal::Loading(LoadFault::NoMemory)
+        | Refusal::Efg(EfgFault::NoMemory)
         | Refusal::SavedFile(SavedFault::NoMemory)
         | Refusal::Walk(WalkFault::NoMemory)
         | Refusal::Tree(TreeFault::NoMemory)
         | Refusal::PolicyFile(PolicyFault::NoMemory)
         | Refusal::Judging(JudgeFault::NoMemory) => 8,
         Refusal::Words(_) => 2,
-        Refusal::File(FetchFault::Read) => 3,
+        Refusal::File(FetchFault::Read) | Refusal::Loading(LoadFault::File(FetchFault::Read)) => 3,
         Refusal::BadList
         | Refusal::PolicyFile(PolicyFault::Json | PolicyFault::Head | PolicyFault::Shape { .. })
         | Refusal::File(_)
         | Refusal::GameString(_)
         | Refusal::Loading(_)
+        | Refusal::Efg(_)
         | Refusal::SavedFile(_)
         | Refusal::Walk(_) => 4,
         Refusal::PolicyFile(PolicyFault::Overflow { .. }) | Refusal::Judging(_) => 6,

@@ -1,10 +1,10 @@
 //! The verb `restore`: the state of a saved play.
 ghost use Rattle.std.specs.Prelude.{◌≤◌, length, IfOk, None};
-ghost use Rattle.spiel_io.specs.Plan.{Agrees, BeginsAtMost, Follows};
+ghost use Rattle.spiel_io.specs.Plan.{Agrees, BeginsAtMost, Follows, decide, seeing};
 ghost use Rattle.spiel_save.specs.Answer.{reading_saved};
 ghost use Rattle.spiel_string.specs.View.{view};
 ghost use Rattle.spiel_string.specs.WellFormed.{IsWellFormed};
-ghost use Rattle.spiel_cli.specs.Deciding.{decide, file_limit, seeing};
+ghost use Rattle.spiel_cli.specs.Files.{file_limit};
 ghost use Rattle.spiel_cli.specs.Refusal.{kind_of};
 ghost use Rattle.spiel_cli.specs.declared.refusal.Refusal.TheVariants.{SavedFile};
 ghost use Rattle.spiel_cli.specs.Restore.{played_of, restore_plan, play_in_file, state_of, state_of_play};
@@ -47,21 +47,31 @@ fn show_state<G: Game>(
 }
 
 /// The game of a saved play, and the lines of its state.
-fn show_saved<G: Load>(alloc: Global, saved: &Saved) -> Result<Text, Refusal>
+fn show_saved<G: Load, F: Shelf>(
+    alloc: Global,
+    shelf: &mut F,
+    saved: &Saved,
+) -> Result<Text, Refusal>
     requires { IsWellFormed (view saved.now.game) }
-    ensures { Agrees kind_of (state_of_play (played_of saved.now)) None result }
+    ensures follows { Follows kind_of (state_of_play (played_of saved.now)) (F.state shelf.old) (F.state shelf.new) result }
+    ensures begins { BeginsAtMost 0 1 (F.state shelf.old) (F.state shelf.new) }
 {
-    let game = G::load(alloc, &saved.game)?;
+    let game = G::load(alloc, shelf, &saved.game)?;
     show_state(alloc, game, &saved.game, saved.history.items())
 }
 
 /// What the bytes of a saved file show.
-fn restore_bytes<G: Load>(alloc: Global, bytes: &[u8]) -> Result<Text, Refusal>
+fn restore_bytes<G: Load, F: Shelf>(
+    alloc: Global,
+    shelf: &mut F,
+    bytes: &[u8],
+) -> Result<Text, Refusal>
     requires { length bytes.now ≤ file_limit }
-    ensures { Agrees kind_of (play_in_file bytes.now) None result }
+    ensures follows { Follows kind_of (play_in_file bytes.now) (F.state shelf.old) (F.state shelf.new) result }
+    ensures begins { BeginsAtMost 0 1 (F.state shelf.old) (F.state shelf.new) }
 {
     let saved = read_play(alloc, bytes)?;
-    show_saved::<G>(alloc, &saved)
+    show_saved::<G, F>(alloc, shelf, &saved)
 }
 
 /// `restore FILE`: the state of a saved play.
@@ -71,8 +81,8 @@ pub fn restore<G: Load, F: Shelf>(
     name: &[u8],
 ) -> Result<Text, Refusal>
     ensures follows { Follows kind_of (restore_plan name.now) (F.state shelf.old) (F.state shelf.new) result }
-    ensures begins { BeginsAtMost 1 0 (F.state shelf.old) (F.state shelf.new) }
+    ensures begins { BeginsAtMost 1 1 (F.state shelf.old) (F.state shelf.new) }
 {
     let text = read_file(alloc, shelf, name)?;
-    restore_bytes::<G>(alloc, text.bytes())
+    restore_bytes::<G, F>(alloc, shelf, text.bytes())
 }

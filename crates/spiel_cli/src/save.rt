@@ -1,6 +1,6 @@
 //! The verb `save`: the saved file of a play.
 ghost use Rattle.std.specs.Prelude.{None};
-ghost use Rattle.spiel_io.specs.Plan.{Agrees};
+ghost use Rattle.spiel_io.specs.Plan.{Agrees, BeginsAtMost, Follows};
 ghost use Rattle.spiel_string.specs.View.{view};
 ghost use Rattle.spiel_cli.specs.Named.{with_game};
 ghost use Rattle.spiel_cli.specs.Refusal.{kind_of};
@@ -11,6 +11,7 @@ use crate::named::{Load, read_game_string};
 use crate::refusal::Refusal;
 use spiel_api::{Game, walk};
 use spiel_frac::Text;
+use spiel_io::Shelf;
 use spiel_save::write_saved;
 use spiel_string::GameText;
 use std::alloc::Global;
@@ -32,20 +33,32 @@ fn save_play<G: Game>(
 }
 
 /// The saved file of a history of the game that a word names.
-fn save_history<G: Load>(alloc: Global, game: &[u8], history: &[u32]) -> Result<Text, Refusal>
-    ensures { Agrees kind_of (with_game game.now (file_of_play history.now)) None result }
+fn save_history<G: Load, F: Shelf>(
+    alloc: Global,
+    shelf: &mut F,
+    game: &[u8],
+    history: &[u32],
+) -> Result<Text, Refusal>
+    ensures follows { Follows kind_of (with_game game.now (file_of_play history.now)) (F.state shelf.old) (F.state shelf.new) result }
+    ensures begins { BeginsAtMost 0 1 (F.state shelf.old) (F.state shelf.new) }
 {
     let text = read_game_string(alloc, game)?;
-    let game = G::load(alloc, &text)?;
+    let game = G::load(alloc, shelf, &text)?;
     save_play(alloc, game, &text, history)
 }
 
 /// `save GAME LIST`: the saved file of a play, which `restore` reads.
-pub fn save<G: Load>(alloc: Global, game: &[u8], list: &[u8]) -> Result<Text, Refusal>
-    ensures { Agrees kind_of (save_plan game.now list.now) None result }
+pub fn save<G: Load, F: Shelf>(
+    alloc: Global,
+    shelf: &mut F,
+    game: &[u8],
+    list: &[u8],
+) -> Result<Text, Refusal>
+    ensures follows { Follows kind_of (save_plan game.now list.now) (F.state shelf.old) (F.state shelf.new) result }
+    ensures begins { BeginsAtMost 0 1 (F.state shelf.old) (F.state shelf.new) }
 {
     let Some(history) = read_list(alloc, list)? else {
         return Err(Refusal::BadList);
     };
-    save_history::<G>(alloc, game, history.items())
+    save_history::<G, F>(alloc, shelf, game, history.items())
 }

@@ -1,6 +1,6 @@
 //! The verb `show`: what holds of a whole game.
 ghost use Rattle.std.specs.Prelude.{None};
-ghost use Rattle.spiel_io.specs.Plan.{Agrees};
+ghost use Rattle.spiel_io.specs.Plan.{Agrees, BeginsAtMost, Follows};
 ghost use Rattle.spiel_string.specs.View.{view};
 ghost use Rattle.spiel_cli.specs.Refusal.{kind_of};
 ghost use Rattle.spiel_cli.specs.Show.{facts_of, show_plan};
@@ -9,6 +9,7 @@ use crate::named::{Load, read_game_string};
 use crate::refusal::Refusal;
 use spiel_api::Game;
 use spiel_frac::Text;
+use spiel_io::Shelf;
 use spiel_play::facts;
 use spiel_string::GameText;
 use std::alloc::Global;
@@ -24,10 +25,11 @@ fn show_facts<G: Game>(alloc: Global, game: G, text: &GameText) -> Result<Text, 
 }
 
 /// `show GAME`: what holds of a whole game.
-pub fn show<G: Load>(alloc: Global, game: &[u8]) -> Result<Text, Refusal>
-    ensures { Agrees kind_of (show_plan game.now) None result }
+pub fn show<G: Load, F: Shelf>(alloc: Global, shelf: &mut F, game: &[u8]) -> Result<Text, Refusal>
+    ensures follows { Follows kind_of (show_plan game.now) (F.state shelf.old) (F.state shelf.new) result }
+    ensures begins { BeginsAtMost 0 1 (F.state shelf.old) (F.state shelf.new) }
 {
     let text = read_game_string(alloc, game)?;
-    let game = G::load(alloc, &text)?;
+    let game = G::load(alloc, shelf, &text)?;
     show_facts(alloc, game, &text)
 }

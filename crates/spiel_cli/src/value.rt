@@ -87,7 +87,7 @@ pub fn values<G: Load, F: Shelf>(
     policy: &[u8],
 ) -> Result<Text, Refusal>
     ensures follows { Follows kind_of (value_plan game.now policy.now) (F.state shelf.old) (F.state shelf.new) result }
-    ensures begins { BeginsAtMost (files_in policy.now) 0 (F.state shelf.old) (F.state shelf.new) }
+    ensures begins { BeginsAtMost (files_in policy.now) 1 (F.state shelf.old) (F.state shelf.new) }
 {
     let case = read_case::<G, F>(alloc, shelf, game, policy)?;
     tree_values(alloc, &case.text, &case.tree, &case.policy)

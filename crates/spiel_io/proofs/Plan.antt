@@ -1,9 +1,10 @@
 -- Calls that follow a plan: one after the other, one that stops, none at all, and one whose errors are renamed.
 use Rattle.std.proofs.Common.{◌≡◌, ◌+◌, ◌≤◌, Option, Some, None, Result, Ok, Err, refl, sym, ◌∙◌, subst, arith}
 use Rattle.std.specs.Prelude.{IfSome}
+use Rattle.std.specs.Result.{IsErr, IsErrAnd}
 use Rattle.std.proofs.lemmas.Option.{IfSome_then}
 use Rattle.spiel_io.specs.Outside.{Files, ShelfState}
-use Rattle.spiel_io.specs.Plan.{Plan, Give, Refuse, ◌>>=◌, refusing, faulting, Kind, IsMemory, IsRefusal, Reaches, AgreesAt, Agrees, CausedAt, Caused, HoldsAsked, AsksNothing, side_asks, Follows}
+use Rattle.spiel_io.specs.Plan.{Plan, Give, Refuse, ◌>>=◌, refusing, faulting, seeing, Kind, IsMemory, IsRefusal, Reaches, AgreesAt, Agrees, CausedAt, Caused, HoldsAsked, AsksNothing, side_asks, Follows}
 use Rattle.spiel_io.specs.declared.outside.Slot.TheVariants.{Side}
 use Rattle.spiel_io.proofs.Reached.{agrees_then, agrees_stop, agrees_refusing, caused_refusing, holds_first, holds_rest, holds_refusing, quiet_first, quiet_rest, quiet_refusing, quiet_agrees, quiet_caused, side_first, side_then, side_refusing}
 
@@ -50,6 +51,12 @@ module _ {A E : Type 0} (kind : E → Kind) where
     quiet = λ n. h.quiet (quiet_first next plan n);
     side_asked = IfSome_then old.files h.side_asked (λ fs p. let more = side_first next plan fs in omega (arith, p, more));
   }
+
+  -- a call that stops, where its error is handed on
+  pub follows_handed_on : {C : Type 0} (seen : C → A) (plan : Plan A E) (old new : ShelfState) (e : E) (r : Result C E)
+      → Follows kind plan old new (Err e) → IsErr r × IsErrAnd r (λ x. x ≡ e) → Follows kind plan old new (seeing seen r)
+  follows_handed_on seen plan old new e (Ok c) h same = absurd same.1
+  follows_handed_on seen plan old new e (Err x) h same = subst (λ (y : E). Follows {A = A} kind plan old new (Err y)) (sym same.1) h
 
   -- nothing is called
   follows_none : (plan : Plan A E) (s : ShelfState) (r : Result A E) → Agrees kind plan s.files r → Caused kind s.faults s.faults r → Follows kind plan s s r

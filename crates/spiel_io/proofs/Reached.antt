@@ -2,7 +2,7 @@
 use Rattle.std.proofs.Common.{◌≡◌, ℕ, ◌+◌, ◌≤◌, List, Option, Some, None, Result, Ok, Err, refl, ap, ◌∙◌, subst, arith}
 use Rattle.std.specs.Prelude.{MatchOption}
 use Rattle.spiel_io.specs.Outside.{Files, held}
-use Rattle.spiel_io.specs.Plan.{Plan, Give, Refuse, Ask, ◌>>=◌, refusing, faulting, Kind, IsRead, IsMemory, IsRefusal, Reaches, Asks, AgreesAt, Agrees, CausedAt, Caused, HoldsAsked, AsksNothing, side_asks, count_if}
+use Rattle.spiel_io.specs.Plan.{Plan, Give, Refuse, Ask, ◌>>=◌, decide, unless, refusing, faulting, Kind, IsRead, IsMemory, IsRefusal, Reaches, Asks, AgreesAt, Agrees, CausedAt, Caused, HoldsAsked, AsksNothing, side_asks, count_if}
 use Rattle.spiel_io.specs.declared.outside.Slot.TheVariants.{Main, Side}
 
 -- what follows from what holds of the bytes that a name holds
@@ -100,6 +100,15 @@ module _ {A B E : Type 0} (next : A → Plan B E) (e : E) where
   pub agrees_stop : (kind : E → Kind) (plan : Plan A E) (told : Option Files) → Agrees kind plan told (Err e) → Agrees kind (plan >>= next) told (Err e)
   agrees_stop kind plan told h = agrees_at (kind e) _ _ _ _ _ _ (asks_stop plan) (reaches_stop plan told) h
 
+-- what is decided without a file asks for none
+pub quiet_decide : {A F E : Type 0} (refusal : F → E) (r : Result A F) → AsksNothing (decide refusal r)
+quiet_decide refusal (Ok a) = tt
+quiet_decide refusal (Err fault) = tt
+
+pub quiet_unless : {A F E : Type 0} (refusal : F → E) (fault : Option F) (plan : Plan A E) → AsksNothing plan → AsksNothing (unless refusal fault plan)
+quiet_unless refusal None plan h = h
+quiet_unless refusal (Some fault) plan h = tt
+
 -- a plan that asks for nothing: what it comes to doesn't hang on the files
 module _ {A E : Type 0} where
   quiet_reaches : (plan : Plan A E) (told : Option Files) (r : Result A E) → AsksNothing plan → Reaches plan None r → Reaches plan told r
@@ -127,11 +136,18 @@ module _ {A E : Type 0} where
 
 -- a plan with its refusals renamed
 module _ {A E R : Type 0} (f : E → R) where
-  reaches_refusing : (plan : Plan A E) (told : Option Files) (r : Result A E) → Reaches plan told r → Reaches (refusing f plan) told (faulting f r)
+  pub reaches_refusing : (plan : Plan A E) (told : Option Files) (r : Result A E) → Reaches plan told r → Reaches (refusing f plan) told (faulting f r)
   reaches_refusing (Give a) told r h = ap (faulting f) h
   reaches_refusing (Refuse e) told r h = ap (faulting f) h
   reaches_refusing (Ask slot name rest) None r h = tt
   reaches_refusing (Ask slot name rest) (Some files) r h = held_then (held files name) (λ bytes p. reaches_refusing (rest bytes) (Some files) r p) h
+
+  -- what is given by the one is given by the other
+  pub given_refusing : (plan : Plan A E) (told : Option Files) (a : A) → Reaches (refusing f plan) told (Ok a) → Reaches plan told (Ok a)
+  given_refusing (Give b) told a h = let same : a ≡ b = cc in ap (λ (x : A). Ok x) same
+  given_refusing (Refuse e) told a h = let no : ⊥ = cc in absurd no
+  given_refusing (Ask slot name rest) None a h = tt
+  given_refusing (Ask slot name rest) (Some files) a h = held_then (held files name) (λ bytes p. given_refusing (rest bytes) (Some files) a p) h
 
   asks_refusing : (plan : Plan A E) → Asks plan → Asks (refusing f plan)
   asks_refusing (Give a) h = h

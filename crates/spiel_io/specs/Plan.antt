@@ -1,5 +1,5 @@
 -- Decisions that may ask for files. A plan says what is asked for, and what is decided by the bytes.
-use Rattle.std.specs.Prelude.{◌≡◌, ℕ, ◌+◌, ◌≤◌, IsTrue, List, Option, Some, None, Result, Ok, Err, IfSome, MatchOption}
+use Rattle.std.specs.Prelude.{◌≡◌, ℕ, ◌+◌, ◌≤◌, IsTrue, List, length, nat_lt, Option, Some, None, Result, Ok, Err, IfSome, MatchOption, if◌then◌else◌}
 use Rattle.std.specs.Option.{option_and_then}
 use Rattle.spiel_io.specs.Causes.{Rose}
 use Rattle.spiel_io.specs.Outside.{Files, ShelfState, held}
@@ -28,6 +28,25 @@ refusing rename (Ask slot name rest) = Ask slot name (λ bytes. refusing rename 
 abbrev pub faulting : {A E R : Type 0} → (E → R) → Result A E → Result A R
 faulting rename (Ok a) = Ok a
 faulting rename (Err e) = Err (rename e)
+
+-- an answer as definitions see it
+abbrev pub seeing : {A B E : Type 0} → (A → B) → Result A E → Result B E
+seeing seen (Ok a) = Ok (seen a)
+seeing seen (Err e) = Err e
+
+-- a plan of what is decided without a file, where faults become refusals
+abbrev pub decide : {A F E : Type 0} → (F → E) → Result A F → Plan A E
+decide refusal (Ok a) = Give a
+decide refusal (Err fault) = Refuse (refusal fault)
+
+-- goes on unless there is a fault
+abbrev pub unless : {A F E : Type 0} → (F → E) → Option F → Plan A E → Plan A E
+unless refusal None plan = plan
+unless refusal (Some fault) plan = Refuse (refusal fault)
+
+-- all bytes of a file, where there are at most so many
+abbrev pub whole_file : {E : Type 0} → Slot → List ℕ → ℕ → E → Plan (List ℕ) E
+whole_file slot name limit too_long = Ask slot name (λ bytes. if nat_lt limit (length bytes) then Refuse too_long else Give bytes)
 
 -- what is decided over these files, or nothing where a name that is asked for isn't there
 abbrev pub decided : {A E : Type 0} → Plan A E → Files → Option (Result A E)

@@ -1,4 +1,5 @@
 pub mod Finding
+pub mod Following
 pub mod Nested
 pub mod Reading
 pub mod Tables

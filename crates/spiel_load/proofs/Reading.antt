@@ -8,7 +8,7 @@ use Rattle.spiel_string.specs.declared.value.ParamValue.{ParamValue}
 use Rattle.spiel_load.specs.Asked.{IsComputed, ReadsAs}
 use Rattle.spiel_load.specs.Given.{Asked, Read, ◌>>=◌, asked_by, given_of}
 use Rattle.spiel_load.specs.declared.fault.LoadFault.{LoadFault}
-use Rattle.spiel_load.specs.declared.fault.LoadFault.TheVariants.{UnknownGame, TooDeep, UnknownParam, BadParam, Repeat, Start, NoMemory}
+use Rattle.spiel_load.specs.declared.fault.LoadFault.TheVariants.{UnknownGame, TooDeep, UnknownParam, BadParam, File, Efg, Repeat, Start, NoMemory}
 
 -- a fault of what is read first is one of the whole
 pub computed_then : {A B : Type 0} (read : Read A) (next : A → Read B) (fault : LoadFault) → IsComputed read fault → IsComputed (read >>= next) fault
@@ -16,6 +16,8 @@ computed_then read next (UnknownGame name) e = ap (λ r. r >>= next) e
 computed_then read next TooDeep e = ap (λ r. r >>= next) e
 computed_then read next (UnknownParam name key) e = ap (λ r. r >>= next) e
 computed_then read next (BadParam name key) e = ap (λ r. r >>= next) e
+computed_then read next (File fault) e = e
+computed_then read next (Efg fault) e = ap (λ r. r >>= next) e
 computed_then read next (Repeat fault) e = ap (λ r. r >>= next) e
 computed_then read next (Start fault) e = ap (λ r. r >>= next) e
 computed_then read next NoMemory e = tt

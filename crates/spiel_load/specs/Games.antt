@@ -1,5 +1,6 @@
 -- The games that have names. A game that joins them is a line in this table.
 pub mod Dice
+pub mod Gambit
 pub mod Goofspiel
 use Rattle.std.specs.Prelude.{ℕ, List, [], ◌∷◌, codes, Option, Some, None, Ok, Err, if◌then◌else◌}
 use Rattle.std.specs.Str.{bytes_eq}
@@ -10,10 +11,13 @@ use Rattle.spiel_matrix.specs.Named.{named_parts}
 use Rattle.spiel_matrix.specs.declared.named.Kind.TheVariants.{Pennies, Rps, Dilemma, Sexes}
 use Rattle.spiel_poker.specs.Kuhn.{kuhn_rules}
 use Rattle.spiel_poker.specs.Leduc.{leduc_rules}
-use Rattle.spiel_load.specs.Given.{Asked, Read, ◌>>=◌, only_keys}
+use Rattle.spiel_io.specs.Plan.{Plan}
+use Rattle.spiel_load.specs.Given.{Asked, Read, ◌>>=◌, only_keys, planned}
 use Rattle.spiel_load.specs.Games.Dice.{liars_dice}
+use Rattle.spiel_load.specs.Games.Gambit.{efg_game}
 use Rattle.spiel_load.specs.Games.Goofspiel.{goofspiel}
 use Rattle.spiel_load.specs.Params.{number_at}
+use Rattle.spiel_load.specs.declared.fault.LoadFault.{LoadFault}
 use Rattle.spiel_load.specs.declared.fault.LoadFault.TheVariants.{UnknownGame}
 
 -- a game with no parameter, and one that says how many players it has, which are always 2
@@ -48,6 +52,6 @@ or_unknown asked (Some rules) = Ok rules
 unfoldable pub rules_named : Table → Asked → Read Rules
 rules_named entries asked = rules_among entries asked >>= or_unknown asked
 
--- the rules of the game that has the name, by what is given
-abbrev pub known_rules : Asked → Read Rules
-known_rules asked = rules_named games asked
+-- the rules of the game that has the name, which stands in a file or is one of these
+abbrev pub base_rules : Table → Asked → Plan Rules LoadFault
+base_rules entries asked = if bytes_eq asked.name (codes "efg_game") then efg_game asked else planned (rules_named entries asked)

@@ -3,6 +3,7 @@ use Rattle.std.specs.Prelude.{ℕ, not, List, [], ◌∷◌, Option, Some, None,
 use Rattle.std.specs.List.{find, list_any}
 use Rattle.std.specs.Option.{option_map}
 use Rattle.std.specs.Str.{bytes_eq}
+use Rattle.spiel_io.specs.Plan.{Plan, decide}
 use Rattle.spiel_string.specs.Game.{Game, game, Params, no_params, param, Value}
 use Rattle.spiel_load.specs.declared.fault.LoadFault.{LoadFault}
 use Rattle.spiel_load.specs.declared.fault.LoadFault.TheVariants.{UnknownParam, BadParam}
@@ -33,6 +34,10 @@ infixr 20 ◌>>=◌
 abbrev pub ◌>>=◌ : {A B : Type 0} → Read A → (A → Read B) → Read B
 ◌>>=◌ (Ok x) next = next x
 ◌>>=◌ (Err fault) next = Err fault
+
+-- what is read, as a plan that asks for no file
+abbrev pub planned : {A : Type 0} → Read A → Plan A LoadFault
+planned read = decide (λ fault. fault) read
 
 -- the value that is given for the key
 abbrev pub given_at : Given → List ℕ → Option Value

@@ -4,4 +4,5 @@ pub mod Games
 pub mod Given
 pub mod Named
 pub mod Params
+pub mod Reads
 pub mod Transforms

@@ -1,11 +1,11 @@
 -- The kinds of parameters: what their values mean, and how one is read.
-use Rattle.std.specs.Prelude.{ℕ, ◌&&◌, pos, Bool, List, [], ◌∷◌, nat_le, Option, Some, None, Ok, unwrap_or, if◌then◌else◌}
+use Rattle.std.specs.Prelude.{ℕ, ◌&&◌, pos, Bool, List, [], ◌∷◌, codes, nat_le, Option, Some, None, Ok, unwrap_or, if◌then◌else◌}
 use Rattle.std.specs.List.{find}
 use Rattle.std.specs.Option.{option_map}
 use Rattle.std.specs.Str.{bytes_eq}
 use Rattle.spiel_frac.specs.Listed.{numbers_between}
 use Rattle.spiel_string.specs.Game.{Value, int, flag, word, inner}
-use Rattle.spiel_load.specs.Given.{Asked, asked_by, Read, ◌>>=◌, optional}
+use Rattle.spiel_load.specs.Given.{Asked, asked_by, Read, ◌>>=◌, only_keys, optional, required}
 
 -- a whole number from the first to the last of these
 abbrev pub number_in : ℕ → ℕ → Value → Option ℕ
@@ -36,6 +36,11 @@ history_in (int (pos n)) = if nat_le n 4294967295 then Some (n ∷ []) else None
 history_in (word text) = numbers_between 59 text
 history_in value = None
 
+-- the name of a file; standard input has none
+abbrev pub name_in : Value → Option (List ℕ)
+name_in (word name) = if bytes_eq name (codes "-") then None else Some name
+name_in value = None
+
 -- what is given for the key, or else the last of these
 unfoldable pub flag_at : Asked → List ℕ → Bool → Read Bool
 flag_at asked key default = optional flag_in asked key >>= λ b. Ok (unwrap_or b default)
@@ -48,3 +53,10 @@ choice_at asked key choices default = optional (choice_in choices) asked key >>=
 
 unfoldable pub history_at : Asked → List ℕ → Read (List ℕ)
 history_at asked key = optional history_in asked key >>= λ history. Ok (unwrap_or history [])
+
+-- the name of the file that a game takes, and nothing else
+unfoldable pub file_taken : Asked → Read (List ℕ)
+file_taken asked =
+    only_keys asked (codes "filename" ∷ []) >>= λ fine.
+    optional name_in asked (codes "filename") >>= λ name.
+    required asked (codes "filename") name

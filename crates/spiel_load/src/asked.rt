@@ -6,7 +6,7 @@ ghost use Rattle.std.specs.Str.{bytes_eq};
 ghost use Rattle.spiel_string.specs.View.{value_view, view};
 ghost use Rattle.spiel_load.specs.Asked.{Reads, ReadsAs, asked_view};
 ghost use Rattle.spiel_load.specs.Given.{asked_by, given_at, only_keys, optional};
-ghost use Rattle.spiel_load.specs.Params.{choice_at, choice_in, flag_at, game_in, history_at, history_in, number_at, number_in};
+ghost use Rattle.spiel_load.specs.Params.{choice_at, choice_in, flag_at, game_in, file_taken, history_at, history_in, name_in, number_at, number_in};
 ghost use Rattle.spiel_load.specs.declared.fault.LoadFault.TheVariants.{UnknownGame, UnknownParam, BadParam};
 
 use crate::fault::LoadFault;
@@ -123,6 +123,16 @@ fn number_in(least: u32, most: u32, value: &ParamValue) -> Option<u32>
     }
 }
 
+// The name of a file that a value is, where it is one.
+fn name_in(value: &ParamValue) -> Option<&[u8]>
+    ensures { option_map (λ name. name.now) result ≡ name_in (value_view value.now) }
+{
+    match value {
+        ParamValue::Word(word) if word.bytes() != b"-".as_slice() => Some(word.bytes()),
+        _ => None,
+    }
+}
+
 // The history that a value is, where it is one.
 fn history_in(alloc: Global, value: &ParamValue) -> Result<Option<List<u32>>, NoMemory>
     ensures { IfOk result (λ history. history ≡ history_in (value_view value.now)) }
@@ -146,7 +156,7 @@ fn single(alloc: Global, number: u32) -> Result<List<u32>, NoMemory>
     Ok(history)
 }
 
-#[tactic(auto, unfolding(crate::specs::Given::only_keys, crate::specs::Given::optional, crate::specs::Params::flag_at, crate::specs::Params::number_at, crate::specs::Params::choice_at, crate::specs::Params::history_at))]
+#[tactic(auto, unfolding(crate::specs::Given::only_keys, crate::specs::Given::optional, crate::specs::Params::flag_at, crate::specs::Params::number_at, crate::specs::Params::choice_at, crate::specs::Params::history_at, crate::specs::Params::file_taken))]
 impl<'a> Asked<'a> {
     /// What a game string asks for.
     pub fn by(alloc: Global, text: &'a GameText) -> Asked<'a>
@@ -287,6 +297,20 @@ impl<'a> Asked<'a> {
                 Some(history) => Ok(history),
                 None => Err(self.bad_param(key)?),
             },
+        }
+    }
+
+    /// The name of the file that a game takes, and nothing else.
+    pub fn file(self) -> Result<&'a [u8], LoadFault>
+        ensures { ReadsAs (λ name. name.now) (file_taken (asked_view self.entry)) result }
+    {
+        self.only_keys(&[b"filename"])?;
+        match self.find(b"filename") {
+            Some(value) => match name_in(value) {
+                Some(name) => Ok(name),
+                None => Err(self.bad_param(b"filename")?),
+            },
+            None => Err(self.bad_param(b"filename")?),
         }
     }
 }

@@ -3,7 +3,9 @@ ghost use Rattle.std.specs.Prelude.{Some};
 ghost use Rattle.spiel_load.specs.Faults.{fault_text};
 
 use spiel_api::WalkFault;
+use spiel_efg::EfgFault;
 use spiel_frac::{NoMemory, Text};
+use spiel_io::FetchFault;
 use spiel_layers::RepeatFault;
 use std::error::Error;
 use std::fmt;
@@ -22,6 +24,10 @@ pub enum LoadFault {
     /// The value that is given isn't one that the parameter may have, and the key is the first such
     /// key; or else the parameter has to be given and isn't.
     BadParam { name: Text, key: Text },
+    /// The file of the game was not read, or has too many bytes.
+    File(FetchFault),
+    /// The file holds no extensive game.
+    Efg(EfgFault),
     /// The stage game can't be played so often.
     Repeat(RepeatFault),
     /// The game doesn't begin with the numbers behind which it should start.
@@ -43,6 +49,8 @@ impl fmt::Display for LoadFault {
             LoadFault::BadParam { name, key } => {
                 write!(f, "bad parameter {} of {}", Shown(key), Shown(name))
             }
+            LoadFault::File(fault) => write!(f, "{fault}"),
+            LoadFault::Efg(fault) => write!(f, "{fault}"),
             LoadFault::Repeat(fault) => write!(f, "{fault}"),
             LoadFault::Start(fault) => write!(f, "start: {fault}"),
             LoadFault::NoMemory => write!(f, "no memory"),

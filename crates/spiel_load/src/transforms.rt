@@ -1,7 +1,7 @@
 //! The transforms that have names, and what they take.
 ghost use Rattle.std.specs.Prelude.{◌≡◌};
 ghost use Rattle.spiel_load.specs.Asked.{ReadsAs, asked_view};
-ghost use Rattle.spiel_load.specs.Transforms.{game_taken, rounds_taken, start_taken, transform_of};
+ghost use Rattle.spiel_load.specs.Transforms.{game_taken, rounds_taken, start_taken, taken_by, transform_of};
 
 use crate::asked::Asked;
 use crate::fault::LoadFault;
@@ -16,6 +16,19 @@ pub enum Transform {
     Repeated,
     /// `start_at`
     StartAt,
+    /// `turn_based_simultaneous_game`
+    TurnBased,
+}
+
+/// A transform with all that it takes but the inner game.
+#[derive(Drop)]
+pub enum Layering {
+    /// `misere`
+    Misere,
+    /// So many rounds of the game.
+    Repeated { times: u32 },
+    /// The game behind these numbers.
+    StartAt { prefix: List<u32> },
     /// `turn_based_simultaneous_game`
     TurnBased,
 }
@@ -42,26 +55,26 @@ pub fn find_transform(name: &[u8]) -> Option<Transform>
 
 /// The inner game of a transform that takes nothing else.
 #[tactic(auto, using(crate::proofs::Reading::reading_steps), unfolding(crate::specs::Transforms::game_taken))]
-pub fn game_taken(asked: Asked) -> Result<Asked, LoadFault>
-    ensures { ReadsAs asked_view (game_taken (asked_view asked.entry)) result }
+fn game_taken(layering: Layering, asked: Asked) -> Result<(Layering, Asked), LoadFault>
+    ensures { ReadsAs (λ taken. (taken.0, asked_view taken.1)) (game_taken layering (asked_view asked.entry)) result }
 {
     asked.only_keys(&[b"game"])?;
     match asked.optional_game(b"game")? {
-        Some(inner) => Ok(inner),
+        Some(inner) => Ok((layering, inner)),
         None => Err(asked.bad_param(b"game")?),
     }
 }
 
 /// The number of rounds that a transform takes, and their stage.
 #[tactic(auto, using(crate::proofs::Reading::reading_steps), unfolding(crate::specs::Transforms::rounds_taken))]
-pub fn rounds_taken(asked: Asked) -> Result<(u32, Asked), LoadFault>
+fn rounds_taken(asked: Asked) -> Result<(Layering, Asked), LoadFault>
     ensures { ReadsAs (λ taken. (taken.0, asked_view taken.1)) (rounds_taken (asked_view asked.entry)) result }
 {
     asked.only_keys(&[b"num_repetitions", b"stage_game"])?;
     let times = asked.optional_number(b"num_repetitions", 0, u32::MAX)?;
     let stage = asked.optional_game(b"stage_game")?;
     match (times, stage) {
-        (Some(times), Some(stage)) => Ok((times, stage)),
+        (Some(times), Some(stage)) => Ok((Layering::Repeated { times }, stage)),
         (None, _) => Err(asked.bad_param(b"num_repetitions")?),
         (Some(_), None) => Err(asked.bad_param(b"stage_game")?),
     }
@@ -69,14 +82,26 @@ pub fn rounds_taken(asked: Asked) -> Result<(u32, Asked), LoadFault>
 
 /// The numbers behind which a transform starts a game, and the game.
 #[tactic(auto, using(crate::proofs::Reading::reading_steps), unfolding(crate::specs::Transforms::start_taken))]
-pub fn start_taken(asked: Asked) -> Result<(List<u32>, Asked), LoadFault>
+fn start_taken(asked: Asked) -> Result<(Layering, Asked), LoadFault>
     ensures { ReadsAs (λ taken. (taken.0, asked_view taken.1)) (start_taken (asked_view asked.entry)) result }
 {
     asked.only_keys(&[b"game", b"history"])?;
     let inner = asked.optional_game(b"game")?;
     let prefix = asked.history(b"history")?;
     match inner {
-        Some(inner) => Ok((prefix, inner)),
+        Some(inner) => Ok((Layering::StartAt { prefix }, inner)),
         None => Err(asked.bad_param(b"game")?),
+    }
+}
+
+/// What a transform takes, and its inner game.
+pub fn taken_by(transform: Transform, asked: Asked) -> Result<(Layering, Asked), LoadFault>
+    ensures { ReadsAs (λ taken. (taken.0, asked_view taken.1)) (taken_by transform (asked_view asked.entry)) result }
+{
+    match transform {
+        Transform::Misere => game_taken(Layering::Misere, asked),
+        Transform::Repeated => rounds_taken(asked),
+        Transform::StartAt => start_taken(asked),
+        Transform::TurnBased => game_taken(Layering::TurnBased, asked),
     }
 }

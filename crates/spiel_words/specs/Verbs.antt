@@ -1,9 +1,9 @@
 -- The verbs, and the command that the words are.
-use Rattle.std.specs.Prelude.{List, [], ◌∷◌, Option, Some, None, option_and_then, option_map, if◌then◌else◌, codes}
+use Rattle.std.specs.Prelude.{List, [], ◌∷◌, Option, None, option_and_then, option_map, if◌then◌else◌, codes}
 use Rattle.std.specs.Str.{bytes_eq}
 use Rattle.spiel_words.specs.Line.{Line, Shape, Text, is_given, read_line, value_of}
 use Rattle.spiel_words.specs.declared.command.Command.{Command}
-use Rattle.spiel_words.specs.declared.command.Command.TheVariants.{Judge, Legal, Policy, Restore, Save, Show, Value}
+use Rattle.spiel_words.specs.declared.command.Command.TheVariants.{Judge, Legal, Policy, Restore, Save, Show, Tidy, Value}
 
 -- ---- shapes
 
@@ -60,6 +60,9 @@ value_command_of words = option_map (λ two. Value two.0 two.1) (two_of policy_s
 abbrev pub policy_of : List Text → Option Command
 policy_of words = option_map (λ two. Policy two.0 two.1) (two_of policy_shape (codes "policy") words)
 
+abbrev pub tidy_of : List Text → Option Command
+tidy_of words = option_map (λ file. Tidy file) (one_of file_shape (codes "file") words)
+
 abbrev pub judge_line : Line → Option Command
 judge_line line = option_map (λ two. Judge two.0 two.1 (is_given (codes "brief") line)) (game_and (codes "policy") line)
 
@@ -77,4 +80,5 @@ command_of (verb ∷ words) =
     else if bytes_eq verb (codes "value") then value_command_of words
     else if bytes_eq verb (codes "policy") then policy_of words
     else if bytes_eq verb (codes "judge") then judge_of words
+    else if bytes_eq verb (codes "tidy") then tidy_of words
     else None

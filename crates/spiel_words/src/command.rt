@@ -32,6 +32,10 @@ pub enum Command {
         game: Text,
         policy: Text,
     },
+    /// `tidy FILE`
+    Tidy {
+        file: Text,
+    },
     /// `judge GAME POLICY [--brief]`
     Judge {
         game: Text,

@@ -2,7 +2,7 @@
 ghost use Rattle.std.specs.Prelude.{◌≡◌, None, Some, IfOk, IsErrOf, codes, false, map, string_bytes, true};
 ghost use Rattle.spiel_words.specs.Found.{shape_of};
 ghost use Rattle.spiel_words.specs.Line.{is_among, is_sound};
-ghost use Rattle.spiel_words.specs.Verbs.{command_of, judge_of, legal_of, one_of, policy_of, restore_of, save_of, show_of, two_of, value_command_of};
+ghost use Rattle.spiel_words.specs.Verbs.{command_of, judge_of, legal_of, one_of, policy_of, restore_of, save_of, show_of, tidy_of, two_of, value_command_of};
 
 use crate::command::Command;
 use crate::fault::WordsFault;
@@ -33,6 +33,7 @@ pub fn read_words(alloc: Global, words: &[String]) -> Result<Command, WordsFault
         "value" => read_value(alloc, words),
         "policy" => read_policy(alloc, words),
         "judge" => read_judge(alloc, words),
+        "tidy" => read_tidy(alloc, words),
         _ => Err(WordsFault::Usage),
     }
 }
@@ -113,6 +114,14 @@ fn read_policy(alloc: Global, words: &[String]) -> Result<Command, WordsFault>
 {
     let (game, policy) = read_two(alloc, &GAME_AND_POLICY, "policy", words)?;
     Ok(Command::Policy { game, policy })
+}
+
+fn read_tidy(alloc: Global, words: &[String]) -> Result<Command, WordsFault>
+    ensures ok { IfOk result (λ command. tidy_of (map string_bytes words.now) ≡ Some command) }
+    ensures err { IsErrOf result WordsFault.Usage → tidy_of (map string_bytes words.now) ≡ None }
+{
+    let file = read_one(alloc, &FILE, "file", words)?;
+    Ok(Command::Tidy { file })
 }
 
 fn read_judge(alloc: Global, words: &[String]) -> Result<Command, WordsFault>

@@ -1,5 +1,5 @@
 -- Goofspiel, by its parameters.
-use Rattle.std.specs.Prelude.{ℕ, Bool, false, List, [], ◌∷◌, codes, Ok}
+use Rattle.std.specs.Prelude.{ℕ, false, List, [], ◌∷◌, codes, Ok}
 use Rattle.spiel_api.specs.Rules.{Rules}
 use Rattle.spiel_goof.specs.Goofspiel.{goofspiel_rules}
 use Rattle.spiel_goof.specs.declared.goofspiel.PointOrder.{PointOrder}

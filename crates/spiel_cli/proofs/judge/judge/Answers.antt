@@ -1,7 +1,11 @@
 use Rattle.spiel_cli.specs.Reports.{case_report}
 use Rattle.spiel_cli.proofs.Judgements.{report_given}
-use Rattle.spiel_cli.proofs.Cases.{case_then, reports_ask_nothing}
+use Rattle.spiel_cli.proofs.Cases.{case_refused, case_then, reports_ask_nothing}
 use Rattle.spiel_cli.proofs.judge.judge.Goals as goal
+
+pub returns-in_err-case-clause-follows : goal.returns-in_err-case-clause-follows
+returns-in_err-case-clause-follows g c =
+    case_refused c.args.game.now c.args.policy.now (case_report c.args.brief) _ _ c.in_err-case.field-0.0 c.from_residual.result c.in_err-case.ensures.follows c.from_residual.ensures
 
 pub returns-clause-follows : goal.returns-clause-follows
 returns-clause-follows g c =

@@ -1,4 +1,4 @@
-use Rattle.std.proofs.Common.{Ok, Some, None, refl, ap, sym, ◌∙◌}
+use Rattle.std.proofs.Common.{Ok, Some, refl, ap, sym, ◌∙◌}
 use Rattle.std.specs.Option.{option_map}
 use Rattle.spiel_load.specs.Asked.{asked_view}
 use Rattle.spiel_load.specs.Games.{rules_among}

@@ -1,12 +1,15 @@
-use Rattle.std.proofs.Common.{subst, sym, ◌∙◌}
-use Rattle.spiel_load.specs.Asked.{IsComputed, asked_view}
-use Rattle.spiel_load.proofs.Nested.{plain_within}
-use Rattle.spiel_load.proofs.Reading.{faulty}
+use Rattle.std.proofs.Common.{sym, ◌∙◌}
+use Rattle.spiel_load.specs.Asked.{asked_view}
+use Rattle.spiel_io.proofs.Plan.{follows_handed_on}
+use Rattle.spiel_load.specs.Faults.{load_kind}
+use Rattle.spiel_load.proofs.Nested.{plain_follows, plain_given}
 use Rattle.spiel_load.proofs.nesting.LayerNamed.load.Goals as goal
 
-pub returns-in_err-load-in-None-clause-reads : goal.returns-in_err-load-in-None-clause-reads
-returns-in_err-load-in-None-clause-reads g c =
-    faulty _ _ c.in_err-load-in-None.field-0.0 c.from_residual.result
-    (subst (λ read. IsComputed read c.in_err-load-in-None.field-0.0)
-    (plain_within g.G.Named.room (asked_view c.args.asked) (sym c.find_transform.ensures ∙ c.in-None.is)) c.in_err-load-in-None.ensures.reads)
-    c.from_residual.ensures
+pub returns-in_err-load-in-None-clause-follows : goal.returns-in_err-load-in-None-clause-follows
+returns-in_err-load-in-None-clause-follows g c =
+    plain_follows g.G.Named.room (asked_view c.args.asked) _ _ _ (sym c.find_transform.ensures ∙ c.in-None.is)
+    (follows_handed_on load_kind _ _ _ _ c.in_err-load-in-None.field-0.0 c.from_residual.result c.in_err-load-in-None.ensures.follows c.from_residual.ensures)
+
+pub returns-in_ok-load-in-None-clause-follows : goal.returns-in_ok-load-in-None-clause-follows
+returns-in_ok-load-in-None-clause-follows g c =
+    plain_given g.G.Named.room (asked_view c.args.asked) _ _ _ _ (sym c.find_transform.ensures ∙ c.in-None.is) c.plain.ensures.rules c.in_ok-load-in-None.ensures.follows
